@@ -1,0 +1,35 @@
+// Charges of kind channels: sixteen bits, added by exclusive or.
+ghost use mathlib.Core.Path.{_≡_};
+ghost use Rattle.charge.specs.Kinds.{channels};
+use crate::Charge;
+
+#[derive(Clone, Copy)]
+pub struct Channels {
+    pub bits: u16,
+}
+
+pub impl Charge for Channels as ChannelsCharge {
+    ghost kind = { channels };
+
+    fn zero() -> Channels {
+        Channels { bits: 0 }
+    }
+
+    fn plus(self, other: Channels) -> Channels {
+        Channels { bits: self.bits ^ other.bits }
+    }
+
+    // Each charge is its own opposite.
+    fn opposite(self) -> Channels {
+        self
+    }
+
+    fn same(self, other: Channels) -> bool {
+        self.bits == other.bits
+    }
+
+    // Each set of channels may be an entry.
+    fn is_entry(self) -> bool {
+        true
+    }
+}

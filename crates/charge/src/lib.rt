@@ -1,0 +1,54 @@
+// Kinds of charge: what a ring keeps the total of. Assumes nothing.
+ghost use mathlib.Core.Path.{_≡_};
+ghost use Rattle.std.specs.Orderings.{Decides};
+ghost use Rattle.charge.specs.Groups.{Kind, minus};
+
+mod both;
+mod channels;
+mod kind;
+mod pitch;
+mod voices;
+
+pub use both::Both;
+pub use both::BothCharge;
+pub use channels::Channels;
+pub use channels::ChannelsCharge;
+pub use kind::ChargeKind;
+pub use kind::ChargeKindDebug;
+pub use kind::ChargeKindEq;
+pub use kind::ChargeKindPartialEq;
+pub use pitch::Pitch;
+pub use pitch::PitchCharge;
+pub use voices::Voices;
+pub use voices::VoicesCharge;
+
+// A kind of charge: each charge means an element of a commutative group. The member `kind` holds the
+// group with its laws, so an impl proves them, and code above is proved from them alone.
+pub trait Charge: Copy {
+    ghost kind: { Kind Self };
+
+    fn zero() -> Self
+        ensures { λ r. ⌜ kind .means r ≡ kind .group .zero ⌝ };
+
+    fn plus(self, other: Self) -> Self
+        ensures { λ r. ⌜ kind .means r ≡ kind .group .add (kind .means self) (kind .means other) ⌝ };
+
+    fn opposite(self) -> Self
+        ensures { λ r. ⌜ kind .means r ≡ kind .group .neg (kind .means self) ⌝ };
+
+    // Two charges are the same exactly when their meanings are equal.
+    fn same(self, other: Self) -> bool
+        ensures { λ r. ⌜ Decides r (kind .means self ≡ kind .means other) ⌝ };
+
+    // Whether the charge may be an entry of a density.
+    fn is_entry(self) -> bool
+        ensures { λ r. ⌜ r ≡ kind .entry (kind .means self) ⌝ };
+}
+
+// One charge less another. Adding the second again gives the first back.
+pub fn difference<C: Charge>(a: C, b: C) -> C
+    ensures value { λ r. ⌜ kind .means r ≡ minus (kind .group) (kind .means a) (kind .means b) ⌝ }
+    ensures back { λ r. ⌜ kind .group .add (kind .means r) (kind .means b) ≡ kind .means a ⌝ }
+{
+    a.plus(b.opposite())
+}
