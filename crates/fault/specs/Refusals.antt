@@ -41,9 +41,15 @@ reasonOf BadPosition = codes "the position is not on the ring"
 reasonOf BadLetter = codes "a letter is not below the alphabet size"
 reasonOf BadEntry = codes "an entry is outside the range of its kind"
 
--- a refusal as plain numbers: the code and the place
-abbrev pub refusal : Fault → ℕ × ℕ
-refusal f = (codeOf (f .stop), f .place)
+-- a refusal as plain numbers, the code and the place
+abbrev pub Refusal : Type 0
+Refusal = ℕ × ℕ
+
+abbrev pub refused-at : Stop → ℕ → Refusal
+refused-at stop place = (codeOf stop, place)
+
+abbrev pub refusal : Fault → Refusal
+refusal f = refused-at (f .stop) (f .place)
 
 -- a refusal in one sentence
 abbrev pub sentence : Fault → List ℕ

@@ -1,0 +1,8 @@
+// What the letters and the entries of a preset are held to.
+use charge::ChargeKind;
+
+#[derive(Clone, Copy)]
+pub(crate) struct Shape {
+    pub kind: ChargeKind,
+    pub q: u64,
+}
