@@ -3,6 +3,9 @@ ghost use mathlib.Core.Path.{_≡_};
 ghost use Rattle.charge.specs.Kinds.{channels};
 use crate::Charge;
 
+// The number of sets of channels.
+pub const CHANNEL_SETS: u64 = 65_536;
+
 #[derive(Clone, Copy)]
 pub struct Channels {
     pub bits: u16,

@@ -11,14 +11,18 @@ mod voices;
 
 pub use both::Both;
 pub use both::BothCharge;
+pub use channels::CHANNEL_SETS;
 pub use channels::Channels;
 pub use channels::ChannelsCharge;
 pub use kind::ChargeKind;
 pub use kind::ChargeKindDebug;
 pub use kind::ChargeKindEq;
 pub use kind::ChargeKindPartialEq;
+pub use pitch::PITCH_CLASSES;
 pub use pitch::Pitch;
 pub use pitch::PitchCharge;
+pub use voices::LEAST_VOICES;
+pub use voices::MOST_VOICES;
 pub use voices::Voices;
 pub use voices::VoicesCharge;
 

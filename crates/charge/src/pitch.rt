@@ -11,7 +11,7 @@ mod adding;
 pub use adding::PitchCharge;
 
 // The number of pitch classes.
-pub const CLASSES: u8 = 12;
+pub const PITCH_CLASSES: u8 = 12;
 
 // A pitch class. Its fields are private, so none above 11 can be made.
 #[derive(Clone, Copy)]
@@ -24,7 +24,7 @@ impl Pitch {
     pub fn new(class: u8) -> Option<Pitch>
         ensures { λ r. ⌜ mapped (λ p. p .class) r ≡ cond (ltb class pitch-end) (Some class) None ⌝ }
     {
-        if class < CLASSES {
+        if class < PITCH_CLASSES {
             Some(Pitch { class })
         } else {
             None

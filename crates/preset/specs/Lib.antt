@@ -1,3 +1,5 @@
 pub mod Answers
+pub mod Entries
+pub mod Fields
 pub mod Items
 pub mod Numbers

@@ -56,6 +56,19 @@ pub(crate) fn skip<T: Item>(shape: Shape, whole: usize, input: &[u8], count: usi
     Ok(rest)
 }
 
+// The item at the front of the input, which is there, and the bytes after it.
+fn read_there<T: Item>(shape: Shape, whole: usize, input: &[u8]) -> (T, &[u8])
+    requires within { ⌜ length (now input) ≤ whole ⌝ }
+    requires there { ⌜ isOk (T·Item .format .reads shape whole (now input)) ≡ true ⌝ }
+    ensures answer { λ r. ⌜ T·Item .format .reads shape whole (now (input .entry)) ≡ Ok (r .0, now (r .1)) ⌝ }
+    ensures rest { λ r. ⌜ length (now (r .1)) ≤ length (now (input .entry)) ⌝ }
+{
+    let Ok(item) = T::read(shape, whole, input) else {
+        unreachable()
+    };
+    item
+}
+
 // Reads `count` items, which are there, into the front of the strip.
 pub(crate) fn fill<T: Item>(shape: Shape, whole: usize, input: &[u8], strip: &mut [T], count: usize)
     requires within { ⌜ length (now input) ≤ whole ⌝ }
@@ -65,9 +78,7 @@ pub(crate) fn fill<T: Item>(shape: Shape, whole: usize, input: &[u8], strip: &mu
 {
     let mut rest = input;
     for i in 0..count {
-        let Ok((item, tail)) = T::read(shape, whole, rest) else {
-            unreachable()
-        };
+        let (item, tail) = read_there::<T>(shape, whole, rest);
         strip[i] = item;
         rest = tail;
     }

@@ -1,7 +1,7 @@
 // The sum of pitch classes, modulo 12.
 ghost use Rattle.charge.specs.Kinds.{pitch};
 use crate::Charge;
-use crate::pitch::CLASSES;
+use crate::pitch::PITCH_CLASSES;
 use crate::pitch::Pitch;
 
 pub impl Charge for Pitch as PitchCharge {
@@ -12,11 +12,11 @@ pub impl Charge for Pitch as PitchCharge {
     }
 
     fn plus(self, other: Pitch) -> Pitch {
-        Pitch { class: (self.class + other.class) % CLASSES }
+        Pitch { class: (self.class + other.class) % PITCH_CLASSES }
     }
 
     fn opposite(self) -> Pitch {
-        Pitch { class: (CLASSES - self.class) % CLASSES }
+        Pitch { class: (PITCH_CLASSES - self.class) % PITCH_CLASSES }
     }
 
     fn same(self, other: Pitch) -> bool {
