@@ -1,3 +1,4 @@
+pub mod Heads
 pub mod Reading
 pub mod Spelling
 pub mod Strips

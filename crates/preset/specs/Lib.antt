@@ -3,3 +3,5 @@ pub mod Entries
 pub mod Fields
 pub mod Items
 pub mod Numbers
+pub mod Presets
+pub mod Scans

@@ -8,6 +8,7 @@ mod header;
 mod items;
 mod letter;
 mod number;
+mod reader;
 mod shape;
 
 pub use entry::Entry;
@@ -21,3 +22,4 @@ pub use header::HeaderPartialEq;
 pub use number::MOST_NUMBER;
 pub use number::read_number;
 pub use number::write_number;
+pub use reader::STRIP;

@@ -1,0 +1,27 @@
+-- Where the parts of a preset begin, found before anything is written. Assumes nothing.
+use Prim.Native.Nat.{ℕ, _^_, _≤_, _<_}
+use mathlib.Core.Path.{_≡_}
+use mathlib.Core.List.{List}
+use lib.ListN.{length}
+use Rattle.std.specs.declared.result.Result.the-variants.{Ok}
+use Rattle.fault.specs.Limits.{most-letters, most-words}
+use Rattle.preset.specs.declared.header.Header.{Header}
+use Rattle.preset.specs.declared.reader.Scan.{Scan}
+use Rattle.preset.specs.Answers.{rest-of}
+use Rattle.preset.specs.Presets.{head-read, letters-read, entries-read}
+
+-- what the limits leave of a header
+pub record Lawful (h : Header) : Type 0 where
+  pub alphabet : h .q ≤ most-letters
+  pub letter-count : h .q ^ h .n ≤ most-words
+  pub entry-count : h .q ^ h .k ≤ most-words
+
+-- the letters, the entries and the rest of an input begin where a scan says, and all letters and entries are there
+pub record Scanned (bs : List ℕ) (s : Scan) : Type 0 where
+  pub head : head-read (length bs) bs ≡ Ok (s .head, s .letters .now)
+  pub letters : rest-of (letters-read (length bs) (s .head) (s .letters .now)) ≡ Ok (s .entries .now)
+  pub entries : rest-of (entries-read (length bs) (s .head) (s .entries .now)) ≡ Ok (s .rest .now)
+  pub lawful : Lawful (s .head .header)
+  pub letters-within : length (s .letters .now) ≤ length bs
+  pub entries-within : length (s .entries .now) ≤ length bs
+  pub rest-within : length (s .rest .now) ≤ length bs
