@@ -1,5 +1,6 @@
 pub mod Heads
 pub mod Reading
+pub mod Scanning
 pub mod Spelling
 pub mod Strips
 pub mod Turns

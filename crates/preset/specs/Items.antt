@@ -12,14 +12,12 @@ use Rattle.fault.specs.declared.Stop.the-variants.{BadLetter, BadEntry}
 use Rattle.preset.specs.declared.entry.Entry.{Entry}
 use Rattle.preset.specs.declared.shape.Shape.{Shape}
 use Rattle.preset.specs.Answers.{Answer}
-use Rattle.preset.specs.Entries.{letter, entry, entry-bytes, fits as entry-fits}
-use Rattle.preset.specs.Numbers.{spell}
+use Rattle.preset.specs.Entries.{letter, entry, fits as entry-fits}
 
--- How items of one sort are read from the last bytes of an input of some length, which bytes they are sent
--- as, which are allowed, and the stop code of the others.
+-- How items of one sort are read from the last bytes of an input of some length, which are allowed, and the
+-- stop code of the others.
 pub record Format (X : Type 0) : Type 0 where
   pub reads : Shape → ℕ → List ℕ → Answer X
-  pub sends : Shape → X → List ℕ
   pub fits : Shape → X → Bool
   pub stop : Stop
 
@@ -35,7 +33,6 @@ each-fits fits stop i (x ∷ xs) = cond (fits x) (each-fits fits stop (i + 1) xs
 abbrev pub letter-format : Format ℕ
 letter-format = record {
   reads = λ shape. letter (shape .q);
-  sends = λ _ x. spell x;
   fits = λ shape x. ltb x (shape .q);
   stop = BadLetter
 }
@@ -43,7 +40,6 @@ letter-format = record {
 abbrev pub entry-format : Format Entry
 entry-format = record {
   reads = λ shape. entry (shape .kind);
-  sends = λ shape. entry-bytes (shape .kind);
   fits = λ shape. entry-fits (shape .kind);
   stop = BadEntry
 }

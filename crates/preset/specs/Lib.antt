@@ -5,3 +5,4 @@ pub mod Items
 pub mod Numbers
 pub mod Presets
 pub mod Scans
+pub mod Writes

@@ -75,17 +75,16 @@ ended whole (p, b ∷ bs) = Err (refused-at SurplusBytes (whole - length (b ∷ 
 abbrev pub whole-preset : List ℕ → Result Preset Refusal
 whole-preset bs = andThen (preset bs) (ended (length bs))
 
--- the strips have to hold the largest preset
-abbrev pub with-room : {X : Type 0} → List ℕ → List Entry → Result X Refusal → Result X Refusal
-with-room letters entries r =
-    cond (leb most-words (length letters) && leb most-words (length entries)) r (Err (refused-at ShortStrip 0))
+-- Reading into two strips, which have to be long enough for the largest preset: first with the bytes after the
+-- preset, then without any.
+abbrev pub with-room : {X : Type 0} → ℕ → ℕ → Result X Refusal → Result X Refusal
+with-room letters entries r = cond (leb most-words letters && leb most-words entries) r (Err (refused-at ShortStrip 0))
 
--- reading into two strips, with the bytes after the preset or without any
 abbrev pub reading : List ℕ → List Entry → List ℕ → Answer Preset
-reading letters entries bs = with-room letters entries (preset bs)
+reading letters entries bs = with-room (length letters) (length entries) (preset bs)
 
 abbrev pub whole-reading : List ℕ → List Entry → List ℕ → Result Preset Refusal
-whole-reading letters entries bs = with-room letters entries (whole-preset bs)
+whole-reading letters entries bs = with-room (length letters) (length entries) (whole-preset bs)
 
 -- the header of what was read
 abbrev pub header-of : Result Preset Refusal → Result Header Refusal

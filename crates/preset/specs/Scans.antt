@@ -1,10 +1,10 @@
 -- Where the parts of a preset begin, found before anything is written. Assumes nothing.
-use Prim.Native.Nat.{ℕ, _^_, _≤_, _<_}
+use Prim.Native.Nat.{ℕ, _^_, _≤_}
 use mathlib.Core.Path.{_≡_}
 use mathlib.Core.List.{List}
 use lib.ListN.{length}
 use Rattle.std.specs.declared.result.Result.the-variants.{Ok}
-use Rattle.fault.specs.Limits.{most-letters, most-words}
+use Rattle.fault.specs.Limits.{most-letters, most-window, most-width, most-words}
 use Rattle.preset.specs.declared.header.Header.{Header}
 use Rattle.preset.specs.declared.reader.Scan.{Scan}
 use Rattle.preset.specs.Answers.{rest-of}
@@ -13,6 +13,8 @@ use Rattle.preset.specs.Presets.{head-read, letters-read, entries-read}
 -- what the limits leave of a header
 pub record Lawful (h : Header) : Type 0 where
   pub alphabet : h .q ≤ most-letters
+  pub window : h .n ≤ most-window
+  pub width : h .k ≤ most-width
   pub letter-count : h .q ^ h .n ≤ most-words
   pub entry-count : h .q ^ h .k ≤ most-words
 

@@ -4,9 +4,10 @@ ghost use Prim.Native.Nat.{_+_, _≤_};
 ghost use lib.ListN.{length};
 ghost use Rattle.std.specs.Vec.{made};
 ghost use Rattle.preset.specs.Answers.{seen, over};
-ghost use Rattle.preset.specs.Entries.{signed-part, plain-end, signed-fits, plain-fits, signed-read, plain-read, zig, zag, signed-number, plain-number, part-bytes};
+ghost use Rattle.preset.specs.Entries.{signed-part, plain-end, signed-fits, plain-fits, signed-read, plain-read, zig, zag, signed-number, plain-number, part-bytes, entry-bytes};
 ghost use Rattle.preset.specs.Items.{entry-format};
 use crate::field::read_field;
+use crate::items::Encode;
 use crate::items::Item;
 use crate::number::put_number;
 use crate::number::read_number;
@@ -168,6 +169,10 @@ pub(crate) impl Item for Entry as EntryItem {
     fn stop() -> Stop {
         Stop::BadEntry
     }
+}
+
+pub(crate) impl Encode for Entry as EntryEncode {
+    ghost bytes = { λ shape e. entry-bytes (shape .kind) e };
 
     fn len(self, shape: Shape) -> usize {
         part_len(signed_number(shape.kind, self)) + part_len(plain_number(shape.kind, self))

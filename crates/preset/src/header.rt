@@ -75,7 +75,6 @@ pub(crate) fn read_head(input: &[u8]) -> Result<(Head, &[u8]), Fault>
     ensures answer { λ r. ⌜ seen r ≡ head-read (length (now (input .entry))) (now (input .entry)) ⌝ }
     ensures rest { λ r. ⌜ made r (λ p. length (now (p .1)) ≤ length (now (input .entry))) ⌝ }
     ensures lawful { λ r. ⌜ made r (λ p. Lawful (p .0 .header)) ⌝ }
-    ensures sizes { λ r. ⌜ made r (λ p. (p .0 .header .n < 13) × (p .0 .header .k < 13)) ⌝ }
 {
     let whole = input.len();
     let (kind, rest) = read_kind(whole, input)?;

@@ -1,18 +1,20 @@
 // Letters and entries alike: many items, one after another, read from bytes or written as bytes.
 ghost use mathlib.Core.Path.{_≡_};
 ghost use mathlib.Core.Bool.{true};
-ghost use Prim.Native.Nat.{_+_, _≤_};
+ghost use Prim.Native.Nat.{ℕ, _+_, _≤_};
+ghost use mathlib.Core.List.{List};
 ghost use lib.ListN.{length};
 ghost use Rattle.std.specs.Vec.{made};
 ghost use Rattle.std.specs.Results.{isOk};
 ghost use Rattle.std.specs.declared.result.Result.the-variants.{Ok};
 ghost use Rattle.preset.specs.Answers.{seen, plainly, many, over, rest-of, passed, filled};
 ghost use Rattle.preset.specs.Items.{Format, sent, each-fits};
+ghost use Rattle.preset.specs.declared.shape.Shape.{Shape};
 use crate::shape::Shape;
 use fault::Fault;
 use fault::Stop;
 
-// What stands in a strip of a preset. The member `format` says how it is sent and which values are allowed.
+// What stands in a strip of a preset. The member `format` says how it is read and which values are allowed.
 pub(crate) trait Item: Copy {
     ghost format: { Format Self };
 
@@ -29,17 +31,22 @@ pub(crate) trait Item: Copy {
     // The stop code of an item that is not allowed.
     fn stop() -> Stop
         ensures { λ r. ⌜ r ≡ format .stop ⌝ };
+}
 
-    // How many bytes the item takes.
+// What is sent as bytes.
+pub(crate) trait Encode: Copy {
+    ghost bytes: { Shape → Self → List ℕ };
+
+    // How many bytes there are.
     fn len(self, shape: Shape) -> usize
-        ensures count { λ r. ⌜ r ≡ length (format .sends shape self) ⌝ }
+        ensures count { λ r. ⌜ r ≡ length (bytes shape self) ⌝ }
         ensures bound { λ r. ⌜ r ≤ 20 ⌝ };
 
-    // Writes the item from `at` on, where there is room, and answers the index after it.
+    // Writes the bytes from `at` on, where there is room, and answers the index after them.
     fn put(self, shape: Shape, out: &mut [u8], at: usize) -> usize
-        requires { ⌜ at + length (format .sends shape self) ≤ length (now out) ⌝ }
-        ensures end { λ r. ⌜ r ≡ at + length (format .sends shape self) ⌝ }
-        ensures strip { λ _. ⌜ now (out .exit) ≡ over (now (out .entry)) at (format .sends shape self) ⌝ };
+        requires { ⌜ at + length (bytes shape self) ≤ length (now out) ⌝ }
+        ensures end { λ r. ⌜ r ≡ at + length (bytes shape self) ⌝ }
+        ensures strip { λ _. ⌜ now (out .exit) ≡ over (now (out .entry)) at (bytes shape self) ⌝ };
 }
 
 // Passes over `count` items, and hands on the bytes after them.
@@ -97,9 +104,9 @@ pub(crate) fn check<T: Item>(shape: Shape, items: &[T]) -> Result<(), Fault>
 }
 
 // How many bytes the items take.
-pub(crate) fn total_len<T: Item>(shape: Shape, items: &[T]) -> usize
+pub(crate) fn total_len<T: Encode>(shape: Shape, items: &[T]) -> usize
     requires { ⌜ length (now items) ≤ 4096 ⌝ }
-    ensures count { λ r. ⌜ r ≡ length (sent (T·Item .format .sends shape) (now (items .entry))) ⌝ }
+    ensures count { λ r. ⌜ r ≡ length (sent (T·Encode .bytes shape) (now (items .entry))) ⌝ }
     ensures bound { λ r. ⌜ r ≤ 81920 ⌝ }
 {
     let mut count = 0;
@@ -110,10 +117,10 @@ pub(crate) fn total_len<T: Item>(shape: Shape, items: &[T]) -> usize
 }
 
 // Writes the items from `at` on, where there is room, and answers the index after them.
-pub(crate) fn put_all<T: Item>(shape: Shape, items: &[T], out: &mut [u8], at: usize) -> usize
-    requires { ⌜ at + length (sent (T·Item .format .sends shape) (now items)) ≤ length (now out) ⌝ }
-    ensures end { λ r. ⌜ r ≡ at + length (sent (T·Item .format .sends shape) (now (items .entry))) ⌝ }
-    ensures strip { λ _. ⌜ now (out .exit) ≡ over (now (out .entry)) at (sent (T·Item .format .sends shape) (now (items .entry))) ⌝ }
+pub(crate) fn put_all<T: Encode>(shape: Shape, items: &[T], out: &mut [u8], at: usize) -> usize
+    requires { ⌜ at + length (sent (T·Encode .bytes shape) (now items)) ≤ length (now out) ⌝ }
+    ensures end { λ r. ⌜ r ≡ at + length (sent (T·Encode .bytes shape) (now (items .entry))) ⌝ }
+    ensures strip { λ _. ⌜ now (out .exit) ≡ over (now (out .entry)) at (sent (T·Encode .bytes shape) (now (items .entry))) ⌝ }
 {
     let mut next = at;
     for item in items {

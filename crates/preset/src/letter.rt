@@ -1,6 +1,8 @@
 // Letters of a rule, as they stand in a preset.
 ghost use Rattle.preset.specs.Items.{letter-format};
+ghost use Rattle.preset.specs.Numbers.{spell};
 use crate::field::read_field;
+use crate::items::Encode;
 use crate::items::Item;
 use crate::number::put_number;
 use crate::number::spelt_len;
@@ -23,6 +25,10 @@ pub(crate) impl Item for u8 as LetterItem {
     fn stop() -> Stop {
         Stop::BadLetter
     }
+}
+
+pub(crate) impl Encode for u8 as LetterEncode {
+    ghost bytes = { λ _ x. spell x };
 
     fn len(self, _shape: Shape) -> usize {
         spelt_len(self as u64)

@@ -10,6 +10,7 @@ mod letter;
 mod number;
 mod reader;
 mod shape;
+mod writer;
 
 pub use entry::Entry;
 pub use entry::EntryDebug;
@@ -23,3 +24,5 @@ pub use number::MOST_NUMBER;
 pub use number::read_number;
 pub use number::write_number;
 pub use reader::STRIP;
+pub use reader::read_preset;
+pub use reader::read_whole;

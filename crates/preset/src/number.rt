@@ -5,6 +5,8 @@ ghost use lib.ListN.{length};
 ghost use Rattle.std.specs.Vec.{made};
 ghost use Rattle.preset.specs.Answers.{seen, plainly, over};
 ghost use Rattle.preset.specs.Numbers.{number as numeral, spell, high-bytes, number-end, spelling, spelt-over};
+use crate::items::Encode;
+use crate::shape::Shape;
 use fault::Fault;
 use fault::Stop;
 
@@ -81,6 +83,18 @@ pub(crate) fn put_number(value: u64, out: &mut [u8], at: usize) -> usize
     let last = put_high(value / 128, out, at);
     out[last] = (value % 128) as u8;
     last + 1
+}
+
+pub(crate) impl Encode for u64 as NumberEncode {
+    ghost bytes = { λ _ v. spell v };
+
+    fn len(self, _shape: Shape) -> usize {
+        spelt_len(self)
+    }
+
+    fn put(self, _shape: Shape, out: &mut [u8], at: usize) -> usize {
+        put_number(self, out, at)
+    }
 }
 
 // Writes a number from `at` on and answers the index after it. A value over the limit has no spelling.

@@ -6,8 +6,8 @@ ghost use Rattle.std.specs.Results.{Cases};
 ghost use Rattle.std.specs.declared.result.Result.the-variants.{Err};
 ghost use Rattle.fault.specs.Limits.{most-words};
 ghost use Rattle.fault.specs.Refusals.{refusal};
-ghost use Rattle.preset.specs.Answers.{seen, plainly, filled};
-ghost use Rattle.preset.specs.Presets.{preset as preset-at, letters-read, entries-read, reading, whole-reading, header-of, header-and-rest, strip-after};
+ghost use Rattle.preset.specs.Answers.{seen, plainly};
+ghost use Rattle.preset.specs.Presets.{preset as preset-at, with-room, reading, whole-reading, header-of, header-and-rest, strip-after};
 ghost use Rattle.preset.specs.Scans.{Scanned};
 use crate::entry::Entry;
 use crate::entry::EntryItem;
@@ -45,4 +45,58 @@ fn find_parts(input: &[u8]) -> Result<Scan<'_>, Fault>
     let entries = skip::<u8>(shape, whole, letters, word_count(header.q, header.n))?;
     let rest = skip::<Entry>(shape, whole, entries, word_count(header.q, header.k))?;
     Ok(Scan { head, letters, entries, rest })
+}
+
+// The same for strips of some lengths, which have to be long enough.
+fn find_parts_for(input: &[u8], letters: usize, entries: usize) -> Result<Scan<'_>, Fault>
+    ensures { λ r. ⌜ Cases r (λ s. Scanned (now (input .entry)) s × (most-words ≤ letters) × (most-words ≤ entries)) (λ f. with-room letters entries (preset-at (now (input .entry))) ≡ Err (refusal f)) ⌝ }
+{
+    if letters < STRIP || entries < STRIP {
+        return Err(Fault { stop: Stop::ShortStrip, place: 0 });
+    }
+    let scan = find_parts(input)?;
+    Ok(scan)
+}
+
+// The second pass: the letters and the entries, which are there, go to the front of the strips.
+fn fill_strips(input: &[u8], scan: Scan, letters: &mut [u8], entries: &mut [Entry])
+    requires scanned { ⌜ Scanned (now input) scan ⌝ }
+    requires letter_room { ⌜ most-words ≤ length (now letters) ⌝ }
+    requires entry_room { ⌜ most-words ≤ length (now entries) ⌝ }
+    ensures letters { λ _. ⌜ now (letters .exit) ≡ strip-after (λ p. p .0 .letters) (now (letters .entry)) (preset-at (now (input .entry))) ⌝ }
+    ensures entries { λ _. ⌜ now (entries .exit) ≡ strip-after (λ p. p .0 .entries) (now (entries .entry)) (preset-at (now (input .entry))) ⌝ }
+{
+    let whole = input.len();
+    let header = scan.head.header;
+    let shape = Shape { kind: scan.head.kind, q: header.q as u8 };
+    fill::<u8>(shape, whole, scan.letters, letters, word_count(header.q, header.n));
+    fill::<Entry>(shape, whole, scan.entries, entries, word_count(header.q, header.k));
+}
+
+// The preset at the front of the input goes to the front of the strips, and the bytes after it are handed on.
+pub fn read_preset<'a>(input: &'a [u8], letters: &mut [u8], entries: &mut [Entry]) -> Result<(Header, &'a [u8]), Fault>
+    ensures answer { λ r. ⌜ seen r ≡ header-and-rest (reading (now (letters .entry)) (now (entries .entry)) (now (input .entry))) ⌝ }
+    ensures letters { λ _. ⌜ now (letters .exit) ≡ strip-after (λ p. p .0 .letters) (now (letters .entry)) (reading (now (letters .entry)) (now (entries .entry)) (now (input .entry))) ⌝ }
+    ensures entries { λ _. ⌜ now (entries .exit) ≡ strip-after (λ p. p .0 .entries) (now (entries .entry)) (reading (now (letters .entry)) (now (entries .entry)) (now (input .entry))) ⌝ }
+{
+    let scan = find_parts_for(input, letters.len(), entries.len())?;
+    let header = scan.head.header;
+    let rest = scan.rest;
+    fill_strips(input, scan, letters, entries);
+    Ok((header, rest))
+}
+
+// The same where the input is one preset and no more.
+pub fn read_whole(input: &[u8], letters: &mut [u8], entries: &mut [Entry]) -> Result<Header, Fault>
+    ensures answer { λ r. ⌜ plainly r ≡ header-of (whole-reading (now (letters .entry)) (now (entries .entry)) (now (input .entry))) ⌝ }
+    ensures letters { λ _. ⌜ now (letters .exit) ≡ strip-after (λ p. p .letters) (now (letters .entry)) (whole-reading (now (letters .entry)) (now (entries .entry)) (now (input .entry))) ⌝ }
+    ensures entries { λ _. ⌜ now (entries .exit) ≡ strip-after (λ p. p .entries) (now (entries .entry)) (whole-reading (now (letters .entry)) (now (entries .entry)) (now (input .entry))) ⌝ }
+{
+    let scan = find_parts_for(input, letters.len(), entries.len())?;
+    if !scan.rest.is_empty() {
+        return Err(Fault { stop: Stop::SurplusBytes, place: input.len() - scan.rest.len() });
+    }
+    let header = scan.head.header;
+    fill_strips(input, scan, letters, entries);
+    Ok(header)
 }

@@ -14,13 +14,13 @@ loop-item-holds g c = (omega arith, over-none (c .args .out .now) (c .args .at))
 
 pub put-next-requires : need.put-next-requires
 put-next-requires g c κs =
-    let sends = g .T·Item .format .sends (c .args .shape) in
+    let sends = g .T·Encode .bytes (c .args .shape) in
     let room = put-room sends (c .args .items .now) (c .loop-item .item-index) (c .item-item .result) (c .loop-item-test .taken) (c .item-item .is) (c .args .out .now) (c .args .at) (c .pre) in
     omega (arith, room)
 
 pub loop-item-again : need.loop-item-again
 loop-item-again g c =
-    let sends = g .T·Item .format .sends (c .args .shape) in
+    let sends = g .T·Encode .bytes (c .args .shape) in
     let more = put-more sends (c .args .items .now) (c .loop-item .item-index) (c .item-item .result) (c .loop-item-test .taken) (c .item-item .is) (c .args .out .now) (c .args .at) (c .pre) in
     let inv = c .loop-item .inv in
     (omega (arith, length-sent-more sends (c .args .items .now) (c .loop-item .item-index) (c .item-item .result) (c .loop-item-test .taken) (c .item-item .is)),
@@ -28,7 +28,7 @@ loop-item-again g c =
 
 pub returns : need.returns
 returns g c =
-    let sends = g .T·Item .format .sends (c .args .shape) in
+    let sends = g .T·Encode .bytes (c .args .shape) in
     let t = take-all (c .loop-item .item-index) (c .args .items .now) (c .loop-item-test .left) in
     record {
       end = c .loop-item .inv .0 ∙ ap (λ xs. c .args .at + length (sent sends xs)) t;

@@ -6,5 +6,5 @@ use Rattle.preset.proofs.items.total_len.Given as given
 
 abbrev pub Inv-loop-item : given.InvT-loop-item
 Inv-loop-item g l =
-    (l .count ≡ length (sent (g .T·Item .format .sends (l .shape)) (take (l .item-index) (l .items))))
+    (l .count ≡ length (sent (g .T·Encode .bytes (l .shape)) (take (l .item-index) (l .items))))
     × (l .count ≤ 20 * l .item-index)

@@ -4,7 +4,7 @@ use lib.ListN.{length, length-append}
 use native.Mathlib.Omega.{arith}
 use Rattle.std.specs.declared.option.Option.{Option}
 use Rattle.preset.specs.Entries.{part-bytes, signed-number, signed-part, plain-number, plain-end}
-use Rattle.preset.proofs.entry.EntryItem.len.Needs as need
+use Rattle.preset.proofs.entry.EntryEncode.len.Needs as need
 
 pub returns : need.returns
 returns c =

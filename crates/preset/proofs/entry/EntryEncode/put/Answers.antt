@@ -7,7 +7,7 @@ use Rattle.std.specs.declared.option.Option.{Option}
 use Rattle.preset.specs.Answers.{over}
 use Rattle.preset.specs.Entries.{part-bytes, signed-number, signed-part, plain-number, plain-end}
 use Rattle.preset.proofs.Strips.{over-over}
-use Rattle.preset.proofs.entry.EntryItem.put.Needs as need
+use Rattle.preset.proofs.entry.EntryEncode.put.Needs as need
 
 pub put-part-next-requires : need.put-part-next-requires
 put-part-next-requires c κs =
