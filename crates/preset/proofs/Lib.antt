@@ -4,3 +4,4 @@ pub mod Scanning
 pub mod Spelling
 pub mod Strips
 pub mod Turns
+pub mod Writing

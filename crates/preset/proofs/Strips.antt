@@ -3,10 +3,10 @@ use Prim.Native.Nat.{ℕ, _+_, _≤_, _<_}
 use mathlib.Core.Path.{_≡_, sym, ap, _∙_}
 use mathlib.Core.List.{List, [], _∷_, _++_, append-assoc}
 use lib.ListN.{length, getD, take, drop, set, length-append}
-use native.Mathlib.Nat.{add-zero}
+use native.Mathlib.Nat.{add-zero, zero-add}
 use native.Mathlib.Omega.{arith}
 use Rattle.std.proofs.shelf.Lists.{length-push, drop-more, set-at, take-append-drop, length-take-le, take-at, drop-at, drop-drop}
-use Rattle.preset.specs.Answers.{over}
+use Rattle.preset.specs.Answers.{over, front}
 
 pub over-none : {X : Type 0} (strip : List X) (at : ℕ) → strip ≡ over strip at []
 over-none strip at = rw add-zero (sym (take-append-drop at strip))
@@ -42,3 +42,20 @@ over-over {X} strip at bs cs h =
     let f = append-assoc (take at strip) bs (cs ++ drop (n + length cs) strip) in
     let g = append-assoc bs cs (drop (n + length cs) strip) in
     cc
+
+-- what is written from the first index on stands at the front
+pub over-front : {X : Type 0} (strip xs : List X) → over strip 0 xs ≡ front xs strip
+over-front strip xs = rw zero-add
+
+-- three lists, one after another, from the first index on
+module _ {X : Type 0} (was xs ys zs : List X) where
+  pub length-three : length (xs ++ (ys ++ zs)) ≡ length xs + length ys + length zs
+  length-three = omega (arith, length-append xs (ys ++ zs), length-append ys zs)
+
+  pub over-three : (one two three : List X) (i j : ℕ) → i ≡ length xs → j ≡ i + length ys → one ≡ over was 0 xs → two ≡ over one i ys → three ≡ over two j zs → three ≡ front (xs ++ (ys ++ zs)) was
+  over-three one two three i j a b e f g =
+      let i′ : i ≡ 0 + length xs = omega arith in
+      let j′ : j ≡ 0 + length (xs ++ ys) = omega (arith, length-append xs ys) in
+      let second : two ≡ over was 0 (xs ++ ys) = f ∙ (rw (e, i′) (over-over was 0 xs ys (omega arith))) in
+      let third : three ≡ over was 0 (xs ++ ys ++ zs) = g ∙ (rw (second, j′) (over-over was 0 (xs ++ ys) zs (omega arith))) in
+      third ∙ (over-front was (xs ++ ys ++ zs) ∙ ap (λ (bs : List X). front bs was) (append-assoc xs ys zs))

@@ -26,3 +26,4 @@ pub use number::write_number;
 pub use reader::STRIP;
 pub use reader::read_preset;
 pub use reader::read_whole;
+pub use writer::write_preset;
