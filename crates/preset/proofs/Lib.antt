@@ -5,3 +5,4 @@ pub mod Spelling
 pub mod Strips
 pub mod Turns
 pub mod Writing
+pub mod NumberLaws
