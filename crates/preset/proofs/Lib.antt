@@ -1,8 +1,10 @@
+pub mod Faithful
 pub mod Heads
+pub mod NumberLaws
+pub mod PresetLaws
 pub mod Reading
 pub mod Scanning
 pub mod Spelling
 pub mod Strips
 pub mod Turns
 pub mod Writing
-pub mod NumberLaws

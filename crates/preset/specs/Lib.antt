@@ -2,6 +2,7 @@ pub mod Answers
 pub mod Entries
 pub mod Fields
 pub mod Items
+pub mod Laws
 pub mod Numbers
 pub mod Presets
 pub mod Scans

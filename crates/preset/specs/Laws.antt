@@ -1,0 +1,31 @@
+-- What presets promise beyond a single call. Assumes nothing.
+use Prim.Native.Nat.{ℕ, _<_}
+use mathlib.Core.Path.{_≡_}
+use mathlib.Core.List.{List, _++_}
+use Rattle.std.specs.declared.result.Result.the-variants.{Ok}
+use Rattle.std.specs.shelf.Lists.{All}
+use Rattle.preset.specs.declared.entry.Entry.{Entry}
+use Rattle.preset.specs.declared.header.Header.{Header}
+use Rattle.preset.specs.Presets.{Preset, preset, whole-preset}
+use Rattle.preset.specs.Writes.{checked, preset-bytes}
+
+abbrev pub Bytes : List ℕ → Type 0
+Bytes bs = All (λ b. b < 256) bs
+
+-- what is written reads back as its numbers, and any bytes after it are handed on
+abbrev pub Preset-reads-back : Type 0
+Preset-reads-back =
+    (h : Header) (letters : List ℕ) (entries : List Entry) (p : Preset) (rest : List ℕ)
+    → checked h letters entries ≡ Ok p → preset (preset-bytes p ++ rest) ≡ Ok (p, rest)
+
+-- what is read may be written, and writes back as its bytes
+abbrev pub Preset-writes-back : Type 0
+Preset-writes-back =
+    (bs : List ℕ) (p : Preset) (rest : List ℕ)
+    → Bytes bs → preset bs ≡ Ok (p, rest)
+    → (checked (p .head .header) (p .letters) (p .entries) ≡ Ok p) × (bs ≡ preset-bytes p ++ rest)
+
+-- no two byte strings read as the same preset
+abbrev pub One-spelling : Type 0
+One-spelling =
+    (bs cs : List ℕ) (p : Preset) → Bytes bs → Bytes cs → whole-preset bs ≡ Ok p → whole-preset cs ≡ Ok p → bs ≡ cs
