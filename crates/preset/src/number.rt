@@ -4,7 +4,7 @@ ghost use Prim.Native.Nat.{_+_, _<_, _≤_};
 ghost use lib.ListN.{length};
 ghost use Rattle.std.specs.Vec.{made};
 ghost use Rattle.preset.specs.Answers.{seen, plainly, over};
-ghost use Rattle.preset.specs.Numbers.{number as numeral, spell, high-bytes, number-end, spelling, spelt-over};
+ghost use Rattle.preset.specs.Numbers.{number as numeral, spell, high-bytes, number-end, spelling, spelt-over, Number-refusals, Number-reads-back, Number-spells-back};
 use crate::items::Encode;
 use crate::shape::Shape;
 use fault::Fault;
@@ -20,6 +20,7 @@ const MOST_BYTES: usize = 5;
 pub fn read_number(input: &[u8], place: usize) -> Result<(u64, &[u8]), Fault>
     ensures answer { λ r. ⌜ seen r ≡ numeral place (now (input .entry)) ⌝ }
     ensures rest { λ r. ⌜ made r (λ p. length (now (p .1)) < length (now (input .entry))) ⌝ }
+    ensures refusals { λ _. ⌜ Number-refusals ⌝ }
 {
     let [first, ..] = input else {
         return Err(Fault { stop: Stop::CutShort, place });
@@ -101,6 +102,8 @@ pub(crate) impl Encode for u64 as NumberEncode {
 pub fn write_number(value: u64, out: &mut [u8], at: usize) -> Result<usize, Fault>
     ensures answer { λ r. ⌜ plainly r ≡ number-end (now (out .entry)) at value ⌝ }
     ensures strip { λ _. ⌜ now (out .exit) ≡ spelt-over (now (out .entry)) at (spelling (now (out .entry)) at value) ⌝ }
+    ensures reads_back { λ _. ⌜ Number-reads-back ⌝ }
+    ensures spells_back { λ _. ⌜ Number-spells-back ⌝ }
 {
     if value > MOST_NUMBER {
         return Err(Fault { stop: Stop::Misspelt, place: 0 });

@@ -8,6 +8,7 @@ ghost use Rattle.std.specs.declared.result.Result.the-variants.{Err};
 ghost use Rattle.fault.specs.Refusals.{refusal};
 ghost use Rattle.fault.specs.Limits.{most-words};
 ghost use Rattle.preset.specs.Answers.{plainly, front};
+ghost use Rattle.preset.specs.Laws.{Preset-reads-back};
 ghost use Rattle.preset.specs.Presets.{strip-after};
 ghost use Rattle.preset.specs.Scans.{Lawful, Checked};
 ghost use Rattle.preset.specs.Writes.{tested, size-tests, head-checked, header-numbers, contents-checked, checked, preset-bytes, writing, written};
@@ -138,6 +139,7 @@ fn put_preset(head: Head, letters: &[u8], entries: &[Entry], out: &mut [u8]) -> 
 pub fn write_preset(header: Header, letters: &[u8], entries: &[Entry], out: &mut [u8]) -> Result<usize, Fault>
     ensures answer { λ r. ⌜ plainly r ≡ written (writing header (now (letters .entry)) (now (entries .entry)) (now (out .entry))) ⌝ }
     ensures strip { λ _. ⌜ now (out .exit) ≡ strip-after (λ bytes. bytes) (now (out .entry)) (writing header (now (letters .entry)) (now (entries .entry)) (now (out .entry))) ⌝ }
+    ensures reads_back { λ _. ⌜ Preset-reads-back ⌝ }
 {
     let head = check_preset(header, letters, entries)?;
     let letters = &letters[0..word_count(header.q, header.n)];
