@@ -24,7 +24,7 @@ pub impl Charge for Channels as ChannelsCharge {
 
     // Each charge is its own opposite.
     fn opposite(self) -> Channels {
-        self
+        Channels { bits: self.bits }
     }
 
     fn same(self, other: Channels) -> bool {

@@ -3,12 +3,13 @@ ghost use mathlib.Core.Path.{_≡_};
 ghost use Prim.Native.Nat.{_^_, _+_, _-_, _≤_, _<_};
 ghost use lib.ListN.{length};
 ghost use Rattle.std.specs.Vec.{made};
-ghost use Rattle.fault.specs.Limits.{most-words};
+ghost use Rattle.fault.specs.Limits.{most-letters, most-words};
 ghost use Rattle.preset.specs.Answers.{seen};
 ghost use Rattle.preset.specs.Presets.{few-words, kind-read, head-read};
 ghost use Rattle.preset.specs.Scans.{Lawful};
 use crate::field::read_field;
 use crate::number::read_number;
+use crate::shape::Shape;
 use charge::ChargeKind;
 use fault::Fault;
 use fault::Stop;
@@ -34,6 +35,16 @@ pub struct Header {
 pub(crate) struct Head {
     pub kind: ChargeKind,
     pub header: Header,
+}
+
+impl Head {
+    // What the letters and the entries after the header are held to.
+    pub(crate) fn shape(self) -> Shape
+        requires { ⌜ self .header .q ≤ most-letters ⌝ }
+        ensures { λ r. ⌜ (r .kind ≡ self .kind) × (r .q ≡ self .header .q) ⌝ }
+    {
+        Shape { kind: self.kind, q: self.header.q as u8 }
+    }
 }
 
 // Whether there are at most MOST_WORDS words of m letters.

@@ -19,12 +19,12 @@ use crate::header::word_count;
 use crate::items::fill;
 use crate::items::skip;
 use crate::letter::LetterItem;
-use crate::shape::Shape;
 use fault::Fault;
 use fault::Stop;
+use fault::limits::MOST_WORDS;
 
 // How long the strips have to be that a preset is read into: the largest preset fits.
-pub const STRIP: usize = 4096;
+pub const STRIP: usize = MOST_WORDS as usize;
 
 // Where the parts of a preset begin.
 #[derive(Drop)]
@@ -42,7 +42,7 @@ fn find_parts(input: &[u8]) -> Result<Scan<'_>, Fault>
     let whole = input.len();
     let (head, letters) = read_head(input)?;
     let header = head.header;
-    let shape = Shape { kind: head.kind, q: header.q as u8 };
+    let shape = head.shape();
     let entries = skip::<u8>(shape, whole, letters, word_count(header.q, header.n))?;
     let rest = skip::<Entry>(shape, whole, entries, word_count(header.q, header.k))?;
     Ok(Scan { head, letters, entries, rest })
@@ -69,7 +69,7 @@ fn fill_strips(input: &[u8], scan: Scan, letters: &mut [u8], entries: &mut [Entr
 {
     let whole = input.len();
     let header = scan.head.header;
-    let shape = Shape { kind: scan.head.kind, q: header.q as u8 };
+    let shape = scan.head.shape();
     fill::<u8>(shape, whole, scan.letters, letters, word_count(header.q, header.n));
     fill::<Entry>(shape, whole, scan.entries, entries, word_count(header.q, header.k));
 }

@@ -6,7 +6,7 @@ ghost use Rattle.std.specs.Results.{Cases};
 ghost use Rattle.std.specs.Vec.{made};
 ghost use Rattle.std.specs.declared.result.Result.the-variants.{Err};
 ghost use Rattle.fault.specs.Refusals.{refusal};
-ghost use Rattle.fault.specs.Limits.{most-words};
+ghost use Rattle.fault.specs.Limits.{most-letters, most-words};
 ghost use Rattle.preset.specs.Answers.{plainly, front};
 ghost use Rattle.preset.specs.Laws.{Preset-reads-back};
 ghost use Rattle.preset.specs.Presets.{strip-after};
@@ -25,7 +25,6 @@ use crate::items::total_len;
 use crate::letter::LetterEncode;
 use crate::letter::LetterItem;
 use crate::number::NumberEncode;
-use crate::shape::Shape;
 use charge::ChargeKind;
 use fault::Fault;
 use fault::Stop;
@@ -33,14 +32,6 @@ use fault::limits::LEAST_LETTERS;
 use fault::limits::MOST_LETTERS;
 use fault::limits::MOST_WIDTH;
 use fault::limits::MOST_WINDOW;
-
-// What the letters and the entries are held to.
-fn shape_of(head: Head) -> Shape
-    requires { ⌜ head .header .q ≤ 255 ⌝ }
-    ensures { λ r. ⌜ (r .kind ≡ head .kind) × (r .q ≡ head .header .q) ⌝ }
-{
-    Shape { kind: head.kind, q: head.header.q as u8 }
-}
 
 fn header_numbers(header: Header) -> [u64; 5]
     ensures { λ r. ⌜ r ≡ header-numbers header ⌝ }
@@ -85,10 +76,10 @@ fn check_head(header: Header) -> Result<Head, Fault>
 
 // Each letter and each entry is allowed.
 fn check_contents(head: Head, letters: &[u8], entries: &[Entry]) -> Result<(), Fault>
-    requires { ⌜ head .header .q ≤ 255 ⌝ }
+    requires { ⌜ head .header .q ≤ most-letters ⌝ }
     ensures { λ r. ⌜ plainly r ≡ contents-checked (record { head = head; letters = now (letters .entry); entries = now (entries .entry) }) ⌝ }
 {
-    let shape = shape_of(head);
+    let shape = head.shape();
     check::<u8>(shape, letters)?;
     check::<Entry>(shape, entries)?;
     Ok(())
@@ -110,24 +101,24 @@ fn check_preset(header: Header, letters: &[u8], entries: &[Entry]) -> Result<Hea
 
 // How many bytes a preset takes.
 fn preset_len(head: Head, letters: &[u8], entries: &[Entry]) -> usize
-    requires alphabet { ⌜ head .header .q ≤ 255 ⌝ }
+    requires alphabet { ⌜ head .header .q ≤ most-letters ⌝ }
     requires letters { ⌜ length (now letters) ≤ most-words ⌝ }
     requires entries { ⌜ length (now entries) ≤ most-words ⌝ }
     ensures { λ r. ⌜ r ≡ length (preset-bytes (record { head = head; letters = now (letters .entry); entries = now (entries .entry) })) ⌝ }
 {
-    let shape = shape_of(head);
+    let shape = head.shape();
     let numbers = header_numbers(head.header);
     total_len::<u64>(shape, &numbers) + total_len::<u8>(shape, letters) + total_len::<Entry>(shape, entries)
 }
 
 // Writes a preset to the front of the strip, where there is room, and answers how many bytes it took.
 fn put_preset(head: Head, letters: &[u8], entries: &[Entry], out: &mut [u8]) -> usize
-    requires alphabet { ⌜ head .header .q ≤ 255 ⌝ }
+    requires alphabet { ⌜ head .header .q ≤ most-letters ⌝ }
     requires room { ⌜ length (preset-bytes (record { head = head; letters = now letters; entries = now entries })) ≤ length (now out) ⌝ }
     ensures end { λ r. ⌜ r ≡ length (preset-bytes (record { head = head; letters = now (letters .entry); entries = now (entries .entry) })) ⌝ }
     ensures strip { λ _. ⌜ now (out .exit) ≡ front (preset-bytes (record { head = head; letters = now (letters .entry); entries = now (entries .entry) })) (now (out .entry)) ⌝ }
 {
-    let shape = shape_of(head);
+    let shape = head.shape();
     let numbers = header_numbers(head.header);
     let after_header = put_all::<u64>(shape, &numbers, out, 0);
     let after_letters = put_all::<u8>(shape, letters, out, after_header);

@@ -18,4 +18,4 @@ returns c =
     omega (arith,
       length-three {X = ℕ} [] (sent spell (header-numbers (h .header))) (sent spell (c .args .letters .now)) (sent (entry-bytes (h .kind)) entries),
       ap (λ (xs : List ℕ). length (sent spell xs)) (c .header-numbers-numbers .ensures),
-      ap (λ (k : ChargeKind). length (sent (entry-bytes k) entries)) (c .shape-of-shape .ensures .0))
+      ap (λ (k : ChargeKind). length (sent (entry-bytes k) entries)) (c .shape-shape .ensures .0))

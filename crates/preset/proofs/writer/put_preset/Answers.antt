@@ -34,7 +34,7 @@ put-all-after-letters-requires c κs =
 
 pub put-all-requires : need.put-all-requires
 put-all-requires c κs =
-    omega (arith, parts (c .args .head) (c .args .letters .now) (c .args .entries .now), numbers-length _ _ (c .header-numbers-numbers .ensures), entries-length _ _ (c .args .entries .now) (c .shape-of-shape .ensures .0), c .pre .room)
+    omega (arith, parts (c .args .head) (c .args .letters .now) (c .args .entries .now), numbers-length _ _ (c .header-numbers-numbers .ensures), entries-length _ _ (c .args .entries .now) (c .shape-shape .ensures .0), c .pre .room)
 
 pub returns : need.returns
 returns c =
@@ -43,7 +43,7 @@ returns c =
     let letters = c .args .letters .now in
     let entries = c .args .entries .now in
     let numbers = numbers-length _ _ (c .header-numbers-numbers .ensures) in
-    let kinds = entries-length _ _ entries (c .shape-of-shape .ensures .0) in
+    let kinds = entries-length _ _ entries (c .shape-shape .ensures .0) in
     record {
       end = omega (arith, parts h letters entries, numbers, kinds);
       strip = over-three out (sent spell (header-numbers (h .header))) (sent spell letters) (sent (entry-bytes (h .kind)) entries)
@@ -51,4 +51,4 @@ returns c =
         (omega (arith, numbers)) (c .put-all-after-letters .ensures .end)
         (c .put-all-after-header .ensures .strip ∙ ap (λ (xs : List ℕ). over out 0 (sent spell xs)) (c .header-numbers-numbers .ensures))
         (c .put-all-after-letters .ensures .strip)
-        (c .put-all .ensures .strip ∙ ap (λ (i : ChargeKind). over (c .put-all-after-letters .last .out) (c .put-all-after-letters .result) (sent (entry-bytes i) entries)) (c .shape-of-shape .ensures .0)) }
+        (c .put-all .ensures .strip ∙ ap (λ (i : ChargeKind). over (c .put-all-after-letters .last .out) (c .put-all-after-letters .result) (sent (entry-bytes i) entries)) (c .shape-shape .ensures .0)) }
