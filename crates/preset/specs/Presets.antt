@@ -6,6 +6,8 @@ use mathlib.Core.List.{List, [], _∷_, _++_}
 use lib.Dec.{leb, ltb}
 use lib.ListN.{length, take}
 use Rattle.std.specs.Options.{okOr, mapped}
+use Rattle.std.specs.declared.option.Option.{Option}
+use Rattle.std.specs.declared.option.Option.the-variants.{None, Some}
 use Rattle.std.specs.declared.result.Result.{Result}
 use Rattle.std.specs.declared.result.Result.the-variants.{Ok, Err}
 use Rattle.std.specs.shelf.Lists.{All}
@@ -27,6 +29,10 @@ use Rattle.preset.specs.Numbers.{number, spell}
 -- there are few enough words of m letters
 abbrev pub few-words : ℕ → ℕ → Bool
 few-words q m = leb (q ^ m) most-words
+
+-- how many words of m letters there are, where m is in range and they are few
+abbrev pub counted : ℕ → ℕ → ℕ → Option ℕ
+counted most q m = cond (leb m most && few-words q m) (Some (q ^ m)) None
 
 -- what a preset holds: its header with the kind that it names, the rule's letters and the density's entries
 pub record Preset : Type 0 where

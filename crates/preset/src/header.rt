@@ -3,9 +3,9 @@ ghost use mathlib.Core.Path.{_≡_};
 ghost use Prim.Native.Nat.{_^_, _+_, _-_, _≤_, _<_};
 ghost use lib.ListN.{length};
 ghost use Rattle.std.specs.Vec.{made};
-ghost use Rattle.fault.specs.Limits.{most-letters, most-words};
+ghost use Rattle.fault.specs.Limits.{most-letters, most-window, most-width, most-words};
 ghost use Rattle.preset.specs.Answers.{seen};
-ghost use Rattle.preset.specs.Presets.{few-words, kind-read, head-read};
+ghost use Rattle.preset.specs.Presets.{few-words, counted, kind-read, head-read};
 ghost use Rattle.preset.specs.Scans.{Lawful};
 use crate::field::read_field;
 use crate::number::read_number;
@@ -28,6 +28,22 @@ pub struct Header {
     pub n: u64,
     pub l: u64,
     pub k: u64,
+}
+
+impl Header {
+    // How many letters the rule has, where the window is in range and the words are few.
+    pub fn letter_count(self) -> Option<usize>
+        ensures { λ r. ⌜ r ≡ counted most-window (self .q) (self .n) ⌝ }
+    {
+        counted_words(MOST_WINDOW, self.q, self.n)
+    }
+
+    // How many entries the density has, where the width is in range and the words are few.
+    pub fn entry_count(self) -> Option<usize>
+        ensures { λ r. ⌜ r ≡ counted most-width (self .q) (self .k) ⌝ }
+    {
+        counted_words(MOST_WIDTH, self.q, self.k)
+    }
 }
 
 // A header that has passed, and the kind that it names.
@@ -65,6 +81,17 @@ pub(crate) fn word_count(q: u64, m: u64) -> usize
     ensures { λ r. ⌜ r ≡ q ^ m ⌝ }
 {
     q.pow(m as u32) as usize
+}
+
+// The same where m letters may be too many.
+fn counted_words(most: u64, q: u64, m: u64) -> Option<usize>
+    requires { ⌜ most < 2 ^ 32 ⌝ }
+    ensures { λ r. ⌜ r ≡ counted most q m ⌝ }
+{
+    if m > most || !few_words(q, m) {
+        return None;
+    }
+    Some(word_count(q, m))
 }
 
 // The kind at the front of the input, the last part of an input of `whole` bytes.
