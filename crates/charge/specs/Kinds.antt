@@ -1,12 +1,12 @@
 -- What the charges of each delivered kind mean. Assumes nothing.
 use mathlib.Core.Path.{_≡_, refl}
 use mathlib.Core.Bool.{Bool, true, _&&_}
-use Prim.Native.Nat.{ℕ, _^_}
+use Prim.Native.Nat.{ℕ, _%_, _^_}
 use lib.Dec.{lit<}
 use lib.IntN.{ℤ, pos, natAbs}
 use lib.Pow.{pow-pos}
 use mir.Syntax.{w64}
-use mir.Val.{toZ}
+use mir.Val.{ofZ, toZ}
 use Rattle.std.specs.Numbers.{remEuclid}
 use Rattle.charge.specs.Groups.{Group, Kind}
 use Rattle.charge.specs.Ranges.{voices-range, pitch-end, channel-bits}
@@ -24,6 +24,13 @@ voice-group = modular (2 ^ 64) (lit< tt)
 abbrev pub voice-means : ℤ → Below (2 ^ 64)
 voice-means z = residue (2 ^ 64) (lit< tt) (natAbs (remEuclid z (pos (2 ^ 64))))
 
+-- the bits of a signed number of 64 bits, and the signed number that has the lowest 64 bits of a number
+abbrev pub bits : ℤ → ℕ
+bits z = ofZ w64 z
+
+abbrev pub wrapped : ℕ → ℤ
+wrapped n = toZ w64 (n % 2 ^ 64)
+
 -- a residue read as a signed number of 64 bits
 abbrev pub signed : Below (2 ^ 64) → ℤ
 signed x = toZ w64 (x .value)
@@ -36,10 +43,14 @@ voices = record {
   zero-enters = refl
 }
 
+-- the residue of a class
+abbrev pub pitch-means : ℕ → Below pitch-end
+pitch-means n = residue pitch-end (lit< tt) n
+
 abbrev pub pitch : Kind Pitch
 pitch = record {
   group = modular pitch-end (lit< tt);
-  means = λ p. record { value = p .class; less = p .small };
+  means = λ p. pitch-means (p .class);
   entry = λ _. true;
   zero-enters = refl
 }

@@ -1,5 +1,7 @@
 // Charges of kind channels: sixteen bits, added by exclusive or.
 ghost use mathlib.Core.Path.{_≡_};
+ghost use lib.Bits.{bitXor};
+ghost use Rattle.std.specs.Orderings.{Decides};
 ghost use Rattle.charge.specs.Kinds.{channels};
 use crate::Charge;
 
@@ -11,6 +13,19 @@ pub struct Channels {
     pub bits: u16,
 }
 
+// The channels that are in one of two sets and not in both.
+fn symmetric_difference(a: u16, b: u16) -> u16
+    ensures { λ r. ⌜ r ≡ bitXor a b ⌝ }
+{
+    a ^ b
+}
+
+fn equal_sets(a: u16, b: u16) -> bool
+    ensures { λ r. ⌜ Decides r (a ≡ b) ⌝ }
+{
+    a == b
+}
+
 pub impl Charge for Channels as ChannelsCharge {
     ghost kind = { channels };
 
@@ -19,7 +34,7 @@ pub impl Charge for Channels as ChannelsCharge {
     }
 
     fn plus(self, other: Channels) -> Channels {
-        Channels { bits: self.bits ^ other.bits }
+        Channels { bits: symmetric_difference(self.bits, other.bits) }
     }
 
     // Each charge is its own opposite.
@@ -28,7 +43,7 @@ pub impl Charge for Channels as ChannelsCharge {
     }
 
     fn same(self, other: Channels) -> bool {
-        self.bits == other.bits
+        equal_sets(self.bits, other.bits)
     }
 
     // Each set of channels may be an entry.

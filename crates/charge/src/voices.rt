@@ -1,6 +1,8 @@
 // Charges of kind voices: whole numbers modulo 2^64, read as signed numbers.
 ghost use mathlib.Core.Path.{_≡_};
-ghost use Rattle.charge.specs.Kinds.{voices};
+ghost use Prim.Native.Nat.{_+_, _-_, _^_};
+ghost use Rattle.std.specs.Orderings.{Decides};
+ghost use Rattle.charge.specs.Kinds.{bits, wrapped, voices};
 use crate::Charge;
 
 // A density's entry is LEAST_VOICES to MOST_VOICES.
@@ -12,6 +14,26 @@ pub struct Voices {
     pub count: i64,
 }
 
+// The sum modulo 2^64.
+fn wrapped_sum(a: i64, b: i64) -> i64
+    ensures { λ r. ⌜ r ≡ wrapped (bits a + bits b) ⌝ }
+{
+    a.wrapping_add(b)
+}
+
+// The opposite modulo 2^64.
+fn wrapped_opposite(a: i64) -> i64
+    ensures { λ r. ⌜ r ≡ wrapped (2 ^ 64 - bits a) ⌝ }
+{
+    a.wrapping_neg()
+}
+
+fn equal_counts(a: i64, b: i64) -> bool
+    ensures { λ r. ⌜ Decides r (a ≡ b) ⌝ }
+{
+    a == b
+}
+
 pub impl Charge for Voices as VoicesCharge {
     ghost kind = { voices };
 
@@ -20,15 +42,15 @@ pub impl Charge for Voices as VoicesCharge {
     }
 
     fn plus(self, other: Voices) -> Voices {
-        Voices { count: self.count.wrapping_add(other.count) }
+        Voices { count: wrapped_sum(self.count, other.count) }
     }
 
     fn opposite(self) -> Voices {
-        Voices { count: self.count.wrapping_neg() }
+        Voices { count: wrapped_opposite(self.count) }
     }
 
     fn same(self, other: Voices) -> bool {
-        self.count == other.count
+        equal_counts(self.count, other.count)
     }
 
     fn is_entry(self) -> bool {
