@@ -19,6 +19,7 @@ use Rattle.std.specs.declared.result.Result.the-variants.{Ok, Err}
 use Rattle.std.specs.shelf.Lists.{All}
 use Rattle.fault.specs.declared.Stop.{Stop}
 use Rattle.fault.specs.declared.Stop.the-variants.{UnknownKind, ShortStrip, TooManyWords, BadAlphabet, BadWindow, BadReach, BadWidth, BadLetter, BadEntry}
+use Rattle.fault.specs.Limits.{most-window, most-width, most-words}
 use Rattle.fault.specs.Refusals.{Refusal, refused-at}
 use Rattle.charge.specs.declared.kind.ChargeKind.{ChargeKind}
 use Rattle.charge.specs.declared.kind.ChargeKind.the-variants.{Voices, Pitch, Channels, Both}
@@ -30,12 +31,12 @@ use Rattle.preset.specs.Answers.{Answer, andThen, many}
 use Rattle.preset.specs.Entries.{letter, fits, entry, entry-bytes}
 use Rattle.preset.specs.Fields.{field}
 use Rattle.preset.specs.Items.{sent, each-fits}
-use Rattle.preset.specs.Laws.{Bytes, Preset-reads-back, Preset-writes-back, One-spelling}
+use Rattle.preset.specs.Laws.{Bytes, Preset-reads-back, Preset-writes-back, One-spelling, Preset-sizes}
 use Rattle.preset.specs.Numbers.{number, number-limit, spell}
-use Rattle.preset.specs.Presets.{Preset, few-words, kind-read, head-read, letters-read, entries-read, preset, ended, whole-preset}
+use Rattle.preset.specs.Presets.{Preset, few-words, counted, kind-read, head-read, letters-read, entries-read, preset, ended, whole-preset}
 use Rattle.preset.specs.Writes.{tested, size-tests, head-checked, fronts, strips-checked, contents-checked, checked, header-numbers, preset-bytes}
 use Rattle.preset.proofs.Faithful.{never, and-ok, cond-ok, pair-0, pair-1, bytes-after, Faithful, field-faithful, entry-faithful, many-back, many-sent, Sent}
-use Rattle.preset.proofs.Heads.{head-done, sizes-pass}
+use Rattle.preset.proofs.Heads.{few-part, head-done, sizes-pass}
 use Rattle.preset.proofs.NumberLaws.{reads-back, spells-back}
 use Rattle.preset.proofs.Scanning.{preset-is}
 
@@ -322,16 +323,30 @@ pub preset-writes-back : Preset-writes-back
 preset-writes-back bs p rest u e = let s = preset-sent bs p rest u e in (checked-from p (s .good), s .so)
 
 -- a whole preset leaves no bytes
-whole-so : (bs : List ℕ) (p : Preset) → Bytes bs → whole-preset bs ≡ Ok p → bs ≡ preset-bytes p
-whole-so bs p u e =
+whole-is : (bs : List ℕ) (p : Preset) → whole-preset bs ≡ Ok p → preset bs ≡ Ok (p, [])
+whole-is bs p e =
     let a = and-ok (preset bs) (ended (length bs)) p e in
     let i = ended-so (length bs) (a .0 .0) (a .0 .1) (a .2) in
-    let s = preset-writes-back bs (a .0 .0) (a .0 .1) u (a .1) in
-    s .1 ∙ (ap (λ (xs : List ℕ). preset-bytes (a .0 .0) ++ xs) (i .1) ∙ (append-nil (preset-bytes (a .0 .0)) ∙ ap preset-bytes (i .0)))
+    a .1 ∙ ap₂ (λ (x : Preset) (xs : List ℕ). Ok (x, xs)) (i .0) (i .1)
   where
     ended-so : (whole : ℕ) (x : Preset) (rest : List ℕ) → ended whole (x, rest) ≡ Ok p → (x ≡ p) × (rest ≡ [])
     ended-so whole x [] e = (cc, refl)
     ended-so whole x (b ∷ rest) e = never e
 
 pub one-spelling : One-spelling
-one-spelling bs cs p u v e f = whole-so bs p u e ∙ sym (whole-so cs p v f)
+one-spelling bs cs p u v e f =
+    let a = preset-writes-back bs p [] u (whole-is bs p e) in
+    let b = preset-writes-back cs p [] v (whole-is cs p f) in
+    a .1 ∙ sym (b .1)
+
+counted-some : (most q m count : ℕ) → m ≤ most → q ^ m ≤ most-words → count ≡ q ^ m → counted most q m ≡ Some count
+counted-some most q m count h few e = rw (le-leb m most h, le-leb (q ^ m) most-words few, e)
+
+pub preset-sizes : Preset-sizes
+preset-sizes bs p u e =
+    let g = preset-sent bs p [] u (whole-is bs p e) .good in
+    let h = p .head .header in
+    let s = g .sized in
+    (ap kindOf (sym (g .named)) ∙ number-kind (p .head .kind),
+      counted-some most-window (h .q) (h .n) (length (p .letters)) (omega (arith, s .n₂)) (few-part (h .q) (h .n + h .k - 1) (h .n) (omega (arith, s .q₁)) (omega (arith, s .k₁)) (s .few)) (g .letter-count),
+      counted-some most-width (h .q) (h .k) (length (p .entries)) (omega (arith, s .k₂)) (few-part (h .q) (h .n + h .k - 1) (h .k) (omega (arith, s .q₁)) (omega (arith, s .n₁)) (s .few)) (g .entry-count))

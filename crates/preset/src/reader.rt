@@ -7,7 +7,7 @@ ghost use Rattle.std.specs.declared.result.Result.the-variants.{Err};
 ghost use Rattle.fault.specs.Limits.{most-words};
 ghost use Rattle.fault.specs.Refusals.{refusal};
 ghost use Rattle.preset.specs.Answers.{seen, plainly};
-ghost use Rattle.preset.specs.Laws.{Preset-writes-back, One-spelling};
+ghost use Rattle.preset.specs.Laws.{Preset-writes-back, One-spelling, Preset-sizes};
 ghost use Rattle.preset.specs.Presets.{preset as preset-at, with-room, reading, whole-reading, header-of, header-and-rest, strip-after};
 ghost use Rattle.preset.specs.Scans.{Scanned};
 use crate::entry::Entry;
@@ -94,6 +94,7 @@ pub fn read_whole(input: &[u8], letters: &mut [u8], entries: &mut [Entry]) -> Re
     ensures letters { λ _. ⌜ now (letters .exit) ≡ strip-after (λ p. p .letters) (now (letters .entry)) (whole-reading (now (letters .entry)) (now (entries .entry)) (now (input .entry))) ⌝ }
     ensures entries { λ _. ⌜ now (entries .exit) ≡ strip-after (λ p. p .entries) (now (entries .entry)) (whole-reading (now (letters .entry)) (now (entries .entry)) (now (input .entry))) ⌝ }
     ensures one_spelling { λ _. ⌜ One-spelling ⌝ }
+    ensures sizes { λ _. ⌜ Preset-sizes ⌝ }
 {
     let scan = find_parts_for(input, letters.len(), entries.len())?;
     if !scan.rest.is_empty() {
