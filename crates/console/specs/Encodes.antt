@@ -1,0 +1,83 @@
+-- How a page is turned into a preset's bytes. Assumes nothing.
+use Prim.Native.Nat.{ℕ}
+use mathlib.Core.Path.{_≡_}
+use mathlib.Core.Bool.{cond}
+use mathlib.Core.List.{List}
+use lib.Dec.{eqb}
+use lib.ListN.{length}
+use Rattle.std.specs.declared.option.Option.{Option}
+use Rattle.std.specs.declared.option.Option.the-variants.{None, Some}
+use Rattle.std.specs.declared.result.Result.{Result}
+use Rattle.std.specs.declared.result.Result.the-variants.{Ok, Err}
+use Rattle.fault.specs.Limits.{most-window, most-width}
+use Rattle.fault.specs.Refusals.{Refusal, refusal}
+use Rattle.preset.specs.Answers as answers
+use Rattle.preset.specs.Presets.{counted}
+use Rattle.preset.specs.Writes.{checked, preset-bytes, fitting}
+use Rattle.console.specs.Grammar.{Content, parsed}
+use Rattle.console.specs.Rows.{Reading}
+use Rattle.console.specs.declared.encode.EncodeError.{EncodeError}
+use Rattle.console.specs.declared.encode.EncodeError.the-variants.{Text, Count, Refused}
+use Rattle.console.specs.declared.error.TextError.{TextError}
+use Rattle.console.specs.declared.error.TextError.the-variants.{Memory}
+use Rattle.console.specs.declared.lines.Lines.{Lines}
+
+-- no preset takes more bytes than this
+abbrev pub most-preset : ℕ
+most-preset = 32768
+
+-- why a page gives no preset: the text is no page, a line has another count of items, or the writer refuses
+pub data Problem : Type 0 where
+  text : TextError → Problem
+  count : ℕ → ℕ → Problem
+  refused : Lines → Refusal → Problem
+
+abbrev pub Encoding : Type 0 → Type 0
+Encoding X = Result X Problem
+
+abbrev pub problem : EncodeError → Problem
+problem (Text e) = text e
+problem (Count line n) = count line n
+problem (Refused lines f) = refused lines (refusal f)
+
+-- an answer by what its value stands for
+abbrev pub answered : {X Y : Type 0} → (X → Y) → Result X EncodeError → Encoding Y
+answered f (Ok x) = Ok (f x)
+answered f (Err e) = Err (problem e)
+
+-- an answer is as defined, unless there is no memory
+abbrev pub Answered : {X : Type 0} → Encoding X → Encoding X → Type 0
+Answered r s = (r ≡ Err (text Memory) → ⊥) → r ≡ s
+
+abbrev pub then : {X Y : Type 0} → Encoding X → (X → Encoding Y) → Encoding Y
+then (Ok x) f = f x
+then (Err e) f = Err e
+
+-- an error of the text, and a refusal of the writer
+abbrev pub from-text : {X : Type 0} → Reading X → Encoding X
+from-text (Ok x) = Ok x
+from-text (Err e) = Err (text e)
+
+abbrev pub from-writer : {X : Type 0} → Lines → Result X Refusal → Encoding X
+from-writer lines (Ok x) = Ok x
+from-writer lines (Err f) = Err (refused lines f)
+
+-- a line has as many items as the header counts, if it counts them
+abbrev pub count-test : ℕ → Option ℕ → ℕ → Encoding (Unit {0})
+count-test line None have = Ok tt
+count-test line (Some n) have = cond (eqb n have) (Ok tt) (Err (count line n))
+
+abbrev pub counts-tested : Content → Encoding (Unit {0})
+counts-tested d =
+    then (count-test (d .lines .rule) (counted most-window (d .header .q) (d .header .n)) (length (d .letters))) (λ _.
+    count-test (d .lines .density) (counted most-width (d .header .q) (d .header .k)) (length (d .entries)))
+
+-- the bytes of what a page holds
+abbrev pub bytes-of : Content → Encoding (List ℕ)
+bytes-of d =
+    then (counts-tested d) (λ _.
+    from-writer (d .lines) (answers.andThen (checked (d .header) (d .letters) (d .entries)) (λ p. fitting most-preset (preset-bytes p))))
+
+-- the bytes of the preset that a text writes
+abbrev pub encoded : List ℕ → Encoding (List ℕ)
+encoded bs = then (from-text (parsed bs)) bytes-of

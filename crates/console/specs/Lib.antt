@@ -1,0 +1,13 @@
+pub mod Encodes
+pub mod Errors
+pub mod Forms
+pub mod Grammar
+pub mod Names
+pub mod Numbers
+pub mod Pages
+pub mod Places
+pub mod ReadBack
+pub mod Refusals
+pub mod Rows
+pub mod Shows
+pub mod Words

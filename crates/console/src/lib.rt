@@ -1,0 +1,52 @@
+// The text form of a preset: a page that is written, and a page that is read. Assumes nothing.
+mod draft;
+mod encode;
+mod error;
+mod item;
+mod kind;
+mod lines;
+mod number;
+mod part;
+mod place;
+mod reader;
+mod row;
+mod show;
+mod words;
+mod writer;
+
+pub use draft::Draft;
+pub use draft::DraftDebug;
+pub use draft::DraftPartialEq;
+pub use encode::EncodeError;
+pub use encode::EncodeErrorDebug;
+pub use encode::EncodeErrorDisplay;
+pub use encode::EncodeErrorEq;
+pub use encode::EncodeErrorPartialEq;
+pub use encode::encode_page;
+pub use error::Expected;
+pub use error::ExpectedDebug;
+pub use error::ExpectedDisplay;
+pub use error::ExpectedEq;
+pub use error::ExpectedPartialEq;
+pub use error::TextError;
+pub use error::TextErrorDebug;
+pub use error::TextErrorDisplay;
+pub use error::TextErrorEq;
+pub use error::TextErrorPartialEq;
+pub use kind::kind_name;
+pub use kind::kind_named;
+pub use lines::Lines;
+pub use lines::LinesDebug;
+pub use lines::LinesEq;
+pub use lines::LinesPartialEq;
+pub use lines::line_of_refusal;
+pub use part::Part;
+pub use part::PartDebug;
+pub use part::PartEq;
+pub use part::PartPartialEq;
+pub use reader::parse;
+pub use show::show_preset;
+pub use writer::page;
+
+#[cfg(test)]
+mod tests;
