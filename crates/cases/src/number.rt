@@ -24,19 +24,43 @@ fn numbers_are_written() -> Result<(), Fail> {
     check_eq(strip, [9, 0x82, 0x2c, 9, 9, 9])?;
     check_eq(write_number(4_294_967_295, &mut strip, 0), Ok(5))?;
     check_eq(strip, [0x8f, 0xff, 0xff, 0xff, 0x7f, 9])?;
-    check_eq(write_number(4_294_967_295, &mut strip, 2), Err(Fault { stop: Stop::ShortStrip, place: 0 }))?;
-    check_eq(write_number(4_294_967_296, &mut strip, 0), Err(Fault { stop: Stop::Misspelt, place: 0 }))?;
+    check_eq(
+        write_number(4_294_967_295, &mut strip, 2),
+        Err(Fault {
+            stop: Stop::ShortStrip,
+            place: 0,
+        }),
+    )?;
+    check_eq(
+        write_number(4_294_967_296, &mut strip, 0),
+        Err(Fault {
+            stop: Stop::Misspelt,
+            place: 0,
+        }),
+    )?;
     check_eq(strip, [0x8f, 0xff, 0xff, 0xff, 0x7f, 9])
 }
 
 #[test]
 fn misspelt_and_cut_short() -> Result<(), Fail> {
-    let misspelt = Fault { stop: Stop::Misspelt, place: 4 };
-    let cut = Fault { stop: Stop::CutShort, place: 4 };
+    let misspelt = Fault {
+        stop: Stop::Misspelt,
+        place: 4,
+    };
+    let cut = Fault {
+        stop: Stop::CutShort,
+        place: 4,
+    };
     check_eq(read_number(&[0x80], 4), Err(misspelt))?;
     check_eq(read_number(&[0x80, 0x00], 4), Err(misspelt))?;
-    check_eq(read_number(&[0x90, 0x80, 0x80, 0x80, 0x00], 4), Err(misspelt))?;
-    check_eq(read_number(&[0x81, 0x80, 0x80, 0x80, 0x80], 4), Err(misspelt))?;
+    check_eq(
+        read_number(&[0x90, 0x80, 0x80, 0x80, 0x00], 4),
+        Err(misspelt),
+    )?;
+    check_eq(
+        read_number(&[0x81, 0x80, 0x80, 0x80, 0x80], 4),
+        Err(misspelt),
+    )?;
     check_eq(read_number(&[0x90, 0x80, 0x80, 0x80], 4), Err(cut))?;
     check_eq(read_number(&[0x81], 4), Err(cut))?;
     check_eq(read_number(&[], 4), Err(cut))

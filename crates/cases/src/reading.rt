@@ -13,7 +13,10 @@ use preset::read_preset;
 use preset::read_whole;
 use std::test::*;
 
-const NONE: Entry = Entry { signed: 7, plain: 7 };
+const NONE: Entry = Entry {
+    signed: 7,
+    plain: 7,
+};
 
 // The code and the place of a refusal, and 0 and 0 where the preset is read.
 fn refused(input: &[u8]) -> (u8, usize) {
@@ -27,15 +30,46 @@ fn refused(input: &[u8]) -> (u8, usize) {
 
 #[test]
 fn rule_184() -> Result<(), Fail> {
-    let input = [0x00, 0x02, 0x03, 0x01, 0x01, 0, 0, 0, 1, 1, 1, 0, 1, 0x00, 0x02];
+    let input = [
+        0x00,
+        0x02,
+        0x03,
+        0x01,
+        0x01,
+        0,
+        0,
+        0,
+        1,
+        1,
+        1,
+        0,
+        1,
+        0x00,
+        0x02,
+    ];
     let mut letters = [7u8; STRIP];
     let mut entries = [NONE; STRIP];
     let header = read_whole(&input, &mut letters, &mut entries)?;
-    check_eq(header, Header { kind: 0, q: 2, n: 3, l: 1, k: 1 })?;
+    check_eq(
+        header,
+        Header {
+            kind: 0,
+            q: 2,
+            n: 3,
+            l: 1,
+            k: 1,
+        },
+    )?;
     check_eq(header.letter_count(), Some(8))?;
     check_eq(header.entry_count(), Some(2))?;
     check_eq(&letters[0..9], &[0, 0, 0, 1, 1, 1, 0, 1, 7])?;
-    check_eq(entries[1], Entry { signed: 1, plain: 0 })?;
+    check_eq(
+        entries[1],
+        Entry {
+            signed: 1,
+            plain: 0,
+        },
+    )?;
     check_eq(entries[2], NONE)
 }
 
@@ -47,7 +81,13 @@ fn the_rest_is_handed_on() -> Result<(), Fail> {
     let (header, rest) = read_preset(&input, &mut letters, &mut entries)?;
     check_eq(header.kind, 3)?;
     check_eq(rest, &[0x80, 0x80])?;
-    check_eq(entries[0], Entry { signed: -3, plain: 11 })
+    check_eq(
+        entries[0],
+        Entry {
+            signed: -3,
+            plain: 11,
+        },
+    )
 }
 
 #[test]
@@ -69,7 +109,10 @@ fn body_refusals() -> Result<(), Fail> {
     check_eq(refused(&[0, 2, 1, 0, 1, 0, 1, 0, 2, 0x80]), (10, 9))?;
     check_eq(refused(&[0, 2, 1, 0, 1, 0, 2, 0, 2]), (14, 6))?;
     check_eq(refused(&[1, 2, 1, 0, 1, 0, 1, 0, 12]), (15, 8))?;
-    check_eq(refused(&[2, 2, 1, 0, 1, 0, 1, 0x84, 0x80, 0x00, 0]), (15, 7))?;
+    check_eq(
+        refused(&[2, 2, 1, 0, 1, 0, 1, 0x84, 0x80, 0x00, 0]),
+        (15, 7),
+    )?;
     check_eq(refused(&[3, 2, 1, 0, 1, 0, 1, 0, 0, 0, 12]), (15, 10))
 }
 

@@ -40,7 +40,7 @@ voices = record {
   group = voice-group;
   means = λ v. voice-means (v .count);
   entry = λ x. voices-range (signed x);
-  zero-enters = refl
+  zero-enters = refl;
 }
 
 -- the residue of a class
@@ -52,7 +52,7 @@ pitch = record {
   group = modular pitch-end (lit< tt);
   means = λ p. pitch-means (p .class);
   entry = λ _. true;
-  zero-enters = refl
+  zero-enters = refl;
 }
 
 -- the low 16 bits of a number
@@ -64,7 +64,7 @@ channels = record {
   group = xors channel-bits;
   means = λ v. channel-means (v .bits);
   entry = λ _. true;
-  zero-enters = refl
+  zero-enters = refl;
 }
 
 -- each part by itself
@@ -73,5 +73,5 @@ both = record {
   group = pairs (voices .group) (pitch .group);
   means = λ b. (voices .means (b .voices), pitch .means (b .pitch));
   entry = λ x. voices .entry (x .0) && pitch .entry (x .1);
-  zero-enters = refl
+  zero-enters = refl;
 }

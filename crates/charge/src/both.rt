@@ -18,15 +18,24 @@ pub impl Charge for Both as BothCharge {
     ghost kind = { both };
 
     fn zero() -> Both {
-        Both { voices: Voices::zero(), pitch: Pitch::zero() }
+        Both {
+            voices: Voices::zero(),
+            pitch: Pitch::zero(),
+        }
     }
 
     fn plus(self, other: Both) -> Both {
-        Both { voices: self.voices.plus(other.voices), pitch: self.pitch.plus(other.pitch) }
+        Both {
+            voices: self.voices.plus(other.voices),
+            pitch: self.pitch.plus(other.pitch),
+        }
     }
 
     fn opposite(self) -> Both {
-        Both { voices: self.voices.opposite(), pitch: self.pitch.opposite() }
+        Both {
+            voices: self.voices.opposite(),
+            pitch: self.pitch.opposite(),
+        }
     }
 
     fn same(self, other: Both) -> bool {

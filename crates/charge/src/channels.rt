@@ -34,7 +34,9 @@ pub impl Charge for Channels as ChannelsCharge {
     }
 
     fn plus(self, other: Channels) -> Channels {
-        Channels { bits: symmetric_difference(self.bits, other.bits) }
+        Channels {
+            bits: symmetric_difference(self.bits, other.bits),
+        }
     }
 
     // Each charge is its own opposite.

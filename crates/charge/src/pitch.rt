@@ -6,6 +6,7 @@ ghost use lib.Dec.{ltb};
 ghost use Rattle.std.specs.Options.{mapped};
 ghost use Rattle.std.specs.declared.option.Option.the-variants.{Some, None};
 ghost use Rattle.charge.specs.Ranges.{pitch-end};
+
 mod adding;
 
 pub use adding::PitchCharge;

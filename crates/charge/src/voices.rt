@@ -7,6 +7,7 @@ use crate::Charge;
 
 // A density's entry is LEAST_VOICES to MOST_VOICES.
 pub const LEAST_VOICES: i64 = -2_147_483_648;
+
 pub const MOST_VOICES: i64 = 2_147_483_647;
 
 #[derive(Clone, Copy)]
@@ -42,11 +43,15 @@ pub impl Charge for Voices as VoicesCharge {
     }
 
     fn plus(self, other: Voices) -> Voices {
-        Voices { count: wrapped_sum(self.count, other.count) }
+        Voices {
+            count: wrapped_sum(self.count, other.count),
+        }
     }
 
     fn opposite(self) -> Voices {
-        Voices { count: wrapped_opposite(self.count) }
+        Voices {
+            count: wrapped_opposite(self.count),
+        }
     }
 
     fn same(self, other: Voices) -> bool {

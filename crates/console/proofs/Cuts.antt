@@ -36,18 +36,18 @@ pub words-past-blanks : (bs : List ℕ) → words bs ≡ words (after Blank bs)
 words-past-blanks [] = refl
 words-past-blanks (b ∷ bs) =
     ⊎-elim
-      (λ e. words-past-blank b bs e ∙ (words-past-blanks bs ∙ ap words (sym (after-more Blank b bs e))))
-      (λ e. ap words (sym (after-ends Blank b bs e)))
-      (cases-bool (blank b))
+    (λ e. words-past-blank b bs e ∙ (words-past-blanks bs ∙ ap words (sym (after-more Blank b bs e))))
+    (λ e. ap words (sym (after-ends Blank b bs e)))
+    (cases-bool (blank b))
 
 first-split : (bs : List ℕ) → first-and-others bs ≡ (front NotBlank bs, words (after NotBlank bs))
 unfolding words
 first-split [] = refl
 first-split (b ∷ bs) =
     ⊎-elim
-      (λ e. rw (e, front-ends NotBlank b bs (not-from-true (blank b) e), after-ends NotBlank b bs (not-from-true (blank b) e), e))
-      (λ e. rw (e, first-split bs, front-more NotBlank b bs (not-from-false (blank b) e), after-more NotBlank b bs (not-from-false (blank b) e), e))
-      (cases-bool (blank b))
+    (λ e. rw (e, front-ends NotBlank b bs (not-from-true (blank b) e), after-ends NotBlank b bs (not-from-true (blank b) e), e))
+    (λ e. rw (e, first-split bs, front-more NotBlank b bs (not-from-false (blank b) e), after-more NotBlank b bs (not-from-false (blank b) e), e))
+    (cases-bool (blank b))
 
 -- the first word, and the words after it
 pub words-split : (bs : List ℕ) → words bs ≡ with-first (front NotBlank (after Blank bs)) (words (after NotBlank (after Blank bs)))
@@ -60,9 +60,9 @@ unfolding words
 words-none [] h = refl
 words-none (b ∷ bs) h =
     ⊎-elim
-      (λ e. words-past-blank b bs e ∙ words-none bs (rw (after-more Blank b bs e) at h))
-      (λ e. let k = rw (after-ends Blank b bs e, front-more NotBlank b bs (not-from-false (blank b) e)) at h in absurd (omega arith))
-      (cases-bool (blank b))
+    (λ e. words-past-blank b bs e ∙ words-none bs (rw (after-more Blank b bs e) at h))
+    (λ e. let k = rw (after-ends Blank b bs e, front-more NotBlank b bs (not-from-false (blank b) e)) at h in absurd (omega arith))
+    (cases-bool (blank b))
 
 with-first-some : (w : List ℕ) (ws : List (List ℕ)) → (length w ≡ 0 → ⊥) → with-first w ws ≡ w ∷ ws
 with-first-some [] ws h = absurd (h refl)

@@ -172,7 +172,8 @@ entry-word Channels e h = decimal-word (e .plain) (h .1)
 entry-word Both e h = record {
   some = omega (arith, signed-some (e .signed) (h .0), length-append (signed (e .signed)) (58 ∷ decimal (e .plain)));
   unbroken = both-of NotBlank digit-not-blank refl refl e h;
-  on-line = both-of NotNewline digit-not-newline refl refl e h }
+  on-line = both-of NotNewline digit-not-newline refl refl e h;
+}
 
 pub entry-reads : (kind : ChargeKind) (e : Entry) → Of-kind kind e → entry kind (entry-text kind e) ≡ Some e
 entry-reads Voices e h = rw (signed-number-signed (e .signed) (h .0)) (ap (λ (p : ℕ). Some (record { signed = e .signed; plain = p })) (sym (h .1)))

@@ -42,8 +42,8 @@ held-shown bs header letters entries h kind lc ec k l e text is =
     let ls : take (lc - 0) letters ≡ p .letters = ap (λ (n : ℕ). take n letters) lc′ ∙ h .letters-are in
     let es : take (ec - 0) entries ≡ p .entries = ap (λ (n : ℕ). take n entries) ec′ ∙ h .entries-are in
     let page : page-text kind header (take (lc - 0) letters) (take (ec - 0) entries) (length bs) ≡ page-text (p .head .kind) (p .head .header) (p .letters) (p .entries) (length bs) =
-        ap₂ (λ (xs : List ℕ) (ys : List Entry). page-text kind header xs ys (length bs)) ls es
-        ∙ ap₂ (λ (x : ChargeKind) (y : Header). page-text x y (p .letters) (p .entries) (length bs)) (sym kind-is) (sym (h .same)) in
+    ap₂ (λ (xs : List ℕ) (ys : List Entry). page-text kind header xs ys (length bs)) ls es
+    ∙ ap₂ (λ (x : ChargeKind) (y : Header). page-text x y (p .letters) (p .entries) (length bs)) (sym kind-is) (sym (h .same)) in
     ap (λ r. andThen r (λ q. Ok (page-text (q .head .kind) (q .head .header) (q .letters) (q .entries) (length bs)))) (h .is) ∙ ap (λ (xs : List ℕ). Ok xs) (sym (is ∙ page))
 
 -- a strip that begins with what was read
@@ -76,8 +76,14 @@ read-held bs header ls ls′ es es′ u sizes e l s =
     let fl = front-is (p .letters) ls ls′ (l ∙ ap (strip-after (λ q. q .letters) ls) (a .1)) in
     let fs = front-is (p .entries) es es′ (s ∙ ap (strip-after (λ q. q .entries) es) (a .1)) in
     record {
-      preset = p; is = whole; same = same;
+      preset = p;
+      is = whole;
+      same = same;
       kind = ap (λ (h : Header). kindOf (h .kind)) (sym same) ∙ z .0;
       letter-count = ap (λ (h : Header). counted most-window (h .q) (h .n)) (sym same) ∙ z .1;
       entry-count = ap (λ (h : Header). counted most-width (h .q) (h .k)) (sym same) ∙ z .2;
-      letter-room = fl .0; entry-room = fs .0; letters-are = fl .1; entries-are = fs .1 }
+      letter-room = fl .0;
+      entry-room = fs .0;
+      letters-are = fl .1;
+      entries-are = fs .1;
+    }

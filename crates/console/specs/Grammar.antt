@@ -42,7 +42,7 @@ parsed-at start =
       header = record { kind = numberOf (kind .value); q = q .value; n = n .value; l = l .value; k = k .value };
       letters = rule .value;
       entries = density .value;
-      lines = record { kind = kind .line; letters = q .line; window = n .line; reach = l .line; width = k .line; rule = rule .line; density = density .line }
+      lines = record { kind = kind .line; letters = q .line; window = n .line; reach = l .line; width = k .line; rule = rule .line; density = density .line };
     })))))))))
 
 -- the text from its first line on

@@ -61,8 +61,8 @@ named part line after (w ∷ ws) = cond (sameBytes w (part-text part)) (Ok (reco
 abbrev pub named-at : Part → Place → Reading (Row (List (List ℕ)))
 named-at part p =
     cond (eqb (length (p .text)) 0)
-      (Err (Ended part))
-      (named part (p .passed + 1) (record { passed = p .passed; text = after NotNewline (p .text) }) (words (front NotNewline (p .text))))
+    (Err (Ended part))
+    (named part (p .passed + 1) (record { passed = p .passed; text = after NotNewline (p .text) }) (words (front NotNewline (p .text))))
 
 -- the line of a part is the next that has a word, and begins with the part's name
 unfoldable pub row : Part → Place → Reading (Row (List (List ℕ)))
@@ -108,5 +108,5 @@ text-end p = cond (eqb (length (p .text)) 0) (Ok tt) (Err (Wrong (p .passed + 1)
 unfoldable pub ending : Place → Reading (Unit {0})
 ending place =
     cond (eqb (length (next place .text)) 0)
-      (Ok tt)
-      (andThen (number-row part.Bytes place) (λ r. text-end (next (r .after))))
+    (Ok tt)
+    (andThen (number-row part.Bytes place) (λ r. text-end (next (r .after))))

@@ -42,8 +42,8 @@ abbrev pub first-and-others : List ℕ → List ℕ × List (List ℕ)
 first-and-others [] = ([], [])
 first-and-others (b ∷ bs) =
     cond (blank b)
-      ([], with-first (first-and-others bs .0) (first-and-others bs .1))
-      (b ∷ first-and-others bs .0, first-and-others bs .1)
+    ([], with-first (first-and-others bs .0) (first-and-others bs .1))
+    (b ∷ first-and-others bs .0, first-and-others bs .1)
 
 -- the words of a line, which blanks keep apart
 unfoldable pub words : List ℕ → List (List ℕ)
@@ -64,5 +64,5 @@ abbrev pub next-word : ℕ → List ℕ → Place
 next-word n [] = record { passed = n; text = [] }
 next-word n (b ∷ bs) =
     cond (eqb b newline)
-      (next-word (n + 1) bs)
-      (cond (blank b) (next-word n bs) (record { passed = n; text = b ∷ bs }))
+    (next-word (n + 1) bs)
+    (cond (blank b) (next-word n bs) (record { passed = n; text = b ∷ bs }))

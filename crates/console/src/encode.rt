@@ -59,7 +59,11 @@ fn check_counts(draft: &Draft) -> Result<(), EncodeError>
 {
     let header = draft.header;
     check_count(draft.lines.rule, header.letter_count(), draft.letters.len())?;
-    check_count(draft.lines.density, header.entry_count(), draft.entries.len())?;
+    check_count(
+        draft.lines.density,
+        header.entry_count(),
+        draft.entries.len(),
+    )?;
     Ok(())
 }
 
@@ -78,8 +82,16 @@ fn encode_draft(heap: Global, draft: &Draft, out: &mut [u8]) -> Result<Vec<u8>, 
     ensures { λ r. ⌜ Answered (answered vec-items r) (bytes-of (content (now (draft .entry)))) ⌝ }
 {
     check_counts(draft)?;
-    match write_preset(draft.header, draft.letters.as_slice(), draft.entries.as_slice(), out) {
-        Err(fault) => Err(EncodeError::Refused { lines: draft.lines, fault }),
+    match write_preset(
+        draft.header,
+        draft.letters.as_slice(),
+        draft.entries.as_slice(),
+        out,
+    ) {
+        Err(fault) => Err(EncodeError::Refused {
+            lines: draft.lines,
+            fault,
+        }),
         Ok(len) => copied(heap, &out[0..len]),
     }
 }

@@ -21,7 +21,10 @@ pub(crate) fn next_word(place: Place<'_>) -> Place<'_>
         if *byte == b'\n' {
             passed += 1;
         } else if !is_blank(*byte) {
-            return Place { passed, text: &place.text[i..] };
+            return Place {
+                passed,
+                text: &place.text[i..],
+            };
         }
     }
     Place { passed, text: &[] }

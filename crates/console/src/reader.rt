@@ -30,12 +30,20 @@ fn read_item<T: Item>(kind: ChargeKind, line: usize, word: &[u8]) -> Result<T, T
 {
     match T::from_word(kind, word) {
         Some(item) => Ok(item),
-        None => Err(TextError::Wrong { line, expected: T::expected() }),
+        None => Err(TextError::Wrong {
+            line,
+            expected: T::expected(),
+        }),
     }
 }
 
 // The items that the words of a line write.
-fn read_items<T: Item>(heap: Global, kind: ChargeKind, line: usize, words: &[u8]) -> Result<Vec<T>, TextError>
+fn read_items<T: Item>(
+    heap: Global,
+    kind: ChargeKind,
+    line: usize,
+    words: &[u8],
+) -> Result<Vec<T>, TextError>
     ensures { λ r. ⌜ Told (read vec-items r) (each (T·Item .form .reads kind) (T·Item .form .expected) line (wordsOf (now (words .entry)))) ⌝ }
 {
     let mut items = Vec::new(heap);
@@ -66,7 +74,13 @@ pub fn parse(heap: Global, text: &[u8]) -> Result<Draft, TextError>
     read_end(density.after)?;
     Ok(Draft {
         kind: kind.value,
-        header: Header { kind: kind.value.number(), q: q.value, n: n.value, l: l.value, k: k.value },
+        header: Header {
+            kind: kind.value.number(),
+            q: q.value,
+            n: n.value,
+            l: l.value,
+            k: k.value,
+        },
         letters,
         entries,
         lines: Lines {

@@ -38,12 +38,25 @@ pub(crate) fn read_row<'a>(part: Part, place: Place<'a>) -> Result<Row<'a, &'a [
     let line = start.passed + 1;
     let parts = cut(Class::NotNewline, start.text);
     let Some(name) = first_word(parts.front) else {
-        return Err(TextError::Wrong { line, expected: Expected::Name(part) });
+        return Err(TextError::Wrong {
+            line,
+            expected: Expected::Name(part),
+        });
     };
     if !is_text(name.front, part.name()) {
-        return Err(TextError::Wrong { line, expected: Expected::Name(part) });
+        return Err(TextError::Wrong {
+            line,
+            expected: Expected::Name(part),
+        });
     }
-    Ok(Row { value: name.rest, line, after: Place { passed: start.passed, text: parts.rest } })
+    Ok(Row {
+        value: name.rest,
+        line,
+        after: Place {
+            passed: start.passed,
+            text: parts.rest,
+        },
+    })
 }
 
 // The only word of a line.
@@ -54,20 +67,31 @@ fn only_word<'a>(expected: Expected, line: usize, words: &'a [u8]) -> Result<&'a
         return Err(TextError::Wrong { line, expected });
     };
     if first_word(word.rest).is_some() {
-        return Err(TextError::Wrong { line, expected: Expected::LineEnd });
+        return Err(TextError::Wrong {
+            line,
+            expected: Expected::LineEnd,
+        });
     }
     Ok(word.front)
 }
 
 // The only word after the part's name in the part's line.
-fn read_word<'a>(part: Part, expected: Expected, place: Place<'a>) -> Result<Row<'a, &'a [u8]>, TextError>
+fn read_word<'a>(
+    part: Part,
+    expected: Expected,
+    place: Place<'a>,
+) -> Result<Row<'a, &'a [u8]>, TextError>
     requires { ⌜ Fits place ⌝ }
     ensures answer { λ r. ⌜ read (row-of (λ s. now s)) r ≡ word-row part expected (at (place .entry)) ⌝ }
     ensures fits { λ r. ⌜ made r (λ s. Fits (s .after)) ⌝ }
 {
     let row = read_row(part, place)?;
     let value = only_word(expected, row.line, row.value)?;
-    Ok(Row { value, line: row.line, after: row.after })
+    Ok(Row {
+        value,
+        line: row.line,
+        after: row.after,
+    })
 }
 
 // The number in the part's line.
@@ -78,9 +102,16 @@ pub(crate) fn read_number_row<'a>(part: Part, place: Place<'a>) -> Result<Row<'a
 {
     let row = read_word(part, Expected::Number, place)?;
     let Some(value) = read_number(row.value) else {
-        return Err(TextError::Wrong { line: row.line, expected: Expected::Number });
+        return Err(TextError::Wrong {
+            line: row.line,
+            expected: Expected::Number,
+        });
     };
-    Ok(Row { value, line: row.line, after: row.after })
+    Ok(Row {
+        value,
+        line: row.line,
+        after: row.after,
+    })
 }
 
 // The kind of charge in its line.
@@ -91,9 +122,16 @@ pub(crate) fn read_kind_row<'a>(place: Place<'a>) -> Result<Row<'a, ChargeKind>,
 {
     let row = read_word(Part::Kind, Expected::Kind, place)?;
     let Some(value) = kind_named(row.value) else {
-        return Err(TextError::Wrong { line: row.line, expected: Expected::Kind });
+        return Err(TextError::Wrong {
+            line: row.line,
+            expected: Expected::Kind,
+        });
     };
-    Ok(Row { value, line: row.line, after: row.after })
+    Ok(Row {
+        value,
+        line: row.line,
+        after: row.after,
+    })
 }
 
 // The line with the number of bytes, which may be left out, and then the end of the text.
@@ -107,7 +145,10 @@ pub(crate) fn read_end(place: Place<'_>) -> Result<(), TextError>
     let bytes = read_number_row(Part::Bytes, place)?;
     let end = next_word(bytes.after);
     if !end.text.is_empty() {
-        return Err(TextError::Wrong { line: end.passed + 1, expected: Expected::TextEnd });
+        return Err(TextError::Wrong {
+            line: end.passed + 1,
+            expected: Expected::TextEnd,
+        });
     }
     Ok(())
 }

@@ -18,7 +18,13 @@ use std::alloc::AllocError;
 use std::alloc::Global;
 
 // The page of a header and of the fronts of two strips, which hold a preset that was read.
-fn held_page(heap: Global, input: &[u8], header: Header, letters: &[u8], entries: &[Entry]) -> Result<String, AllocError>
+fn held_page(
+    heap: Global,
+    input: &[u8],
+    header: Header,
+    letters: &[u8],
+    entries: &[Entry],
+) -> Result<String, AllocError>
     requires { ⌜ Held (now input) header (now letters) (now entries) ⌝ }
     ensures { λ r. ⌜ made r (λ s. shown (now (input .entry)) ≡ Ok (string-bytes s)) ⌝ }
 {
@@ -31,11 +37,23 @@ fn held_page(heap: Global, input: &[u8], header: Header, letters: &[u8], entries
     let Some(entry_count) = header.entry_count() else {
         unreachable()
     };
-    page(heap, kind, header, &letters[0..letter_count], &entries[0..entry_count], input.len())
+    page(
+        heap,
+        kind,
+        header,
+        &letters[0..letter_count],
+        &entries[0..entry_count],
+        input.len(),
+    )
 }
 
 // The same over strips that are long enough.
-fn show_over(heap: Global, input: &[u8], letters: &mut [u8], entries: &mut [Entry]) -> Result<Result<String, Fault>, AllocError>
+fn show_over(
+    heap: Global,
+    input: &[u8],
+    letters: &mut [u8],
+    entries: &mut [Entry],
+) -> Result<Result<String, Fault>, AllocError>
     requires letter_room { ⌜ most-words ≤ length (now letters) ⌝ }
     requires entry_room { ⌜ most-words ≤ length (now entries) ⌝ }
     ensures { λ r. ⌜ made r (λ s. told string-bytes s ≡ shown (now (input .entry))) ⌝ }
@@ -54,6 +72,9 @@ pub fn show_preset(heap: Global, input: &[u8]) -> Result<Result<String, Fault>, 
     ensures { λ r. ⌜ made r (λ s. told string-bytes s ≡ shown (now (input .entry))) ⌝ }
 {
     let mut letters = [0; STRIP];
-    let mut entries = [Entry { signed: 0, plain: 0 }; STRIP];
+    let mut entries = [Entry {
+        signed: 0,
+        plain: 0,
+    }; STRIP];
     show_over(heap, input, &mut letters, &mut entries)
 }

@@ -77,5 +77,9 @@ pub(crate) fn first_word(line: &[u8]) -> Option<Split<'_>>
     ensures rest { λ r. ⌜ found r (λ s. length (now (s .rest)) < length (now (line .entry))) ⌝ }
 {
     let word = cut(Class::NotBlank, cut(Class::Blank, line).rest);
-    if word.front.is_empty() { None } else { Some(word) }
+    if word.front.is_empty() {
+        None
+    } else {
+        Some(word)
+    }
 }

@@ -41,8 +41,17 @@ fn head_text(heap: Global, kind: ChargeKind, header: Header) -> Result<String, A
     ensures { λ r. ⌜ made r (λ s. string-bytes s ≡ head-text kind header) ⌝ }
 {
     let name = kind_name(kind);
-    let Header { kind: _, q, n, l, k } = header;
-    format!(heap, "kind {name}\nletters {q}\nwindow {n}\nreach {l}\nwidth {k}\n")
+    let Header {
+        kind: _,
+        q,
+        n,
+        l,
+        k,
+    } = header;
+    format!(
+        heap,
+        "kind {name}\nletters {q}\nwindow {n}\nreach {l}\nwidth {k}\n"
+    )
 }
 
 // The lines of the rule and the density, by their items, and of the bytes.
@@ -53,7 +62,14 @@ fn rows_text(heap: Global, rule: &str, density: &str, bytes: usize) -> Result<St
 }
 
 // The page of a preset: one line for each part. What is written so is read as the same preset.
-pub fn page(heap: Global, kind: ChargeKind, header: Header, letters: &[u8], entries: &[Entry], bytes: usize) -> Result<String, AllocError>
+pub fn page(
+    heap: Global,
+    kind: ChargeKind,
+    header: Header,
+    letters: &[u8],
+    entries: &[Entry],
+    bytes: usize,
+) -> Result<String, AllocError>
     ensures text { λ r. ⌜ made r (λ s. string-bytes s ≡ page-text kind header (now (letters .entry)) (now (entries .entry)) bytes) ⌝ }
     ensures back { λ r. ⌜ made r (λ s. Holdable kind header (now (letters .entry)) (now (entries .entry)) bytes → Reads-as kind header (now (letters .entry)) (now (entries .entry)) (string-bytes s)) ⌝ }
 {

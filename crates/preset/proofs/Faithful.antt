@@ -108,17 +108,17 @@ module _ (whole low end : ℕ) (stop : Stop) where
   field-faithful = record {
     back = λ v rest g. rw (reads-back (whole - length (spell v ++ rest)) v rest (g .2), le-leb low v (g .0), lt-ltb v end (g .1));
     good = λ bs v rest u e.
-      let s = and-ok (number (whole - length bs) bs) _ (v, rest) e in
-      let c = cond-ok (leb low (s .0 .0) && ltb (s .0 .0) end) (s .0) _ (v, rest) (s .2) in
-      let i : s .0 .0 ≡ v = ap (λ (x : ℕ × List ℕ). x .0) (c .1) in
-      let b = and-parts (leb low (s .0 .0)) (ltb (s .0 .0) end) (c .0) in
-      let p = spells-back (whole - length bs) bs (s .0 .0) (s .0 .1) u (s .1) in
-      rw (sym i) (leb-true low (s .0 .0) (b .0), ltb-true (s .0 .0) end (b .1), p .0);
+        let s = and-ok (number (whole - length bs) bs) _ (v, rest) e in
+        let c = cond-ok (leb low (s .0 .0) && ltb (s .0 .0) end) (s .0) _ (v, rest) (s .2) in
+        let i : s .0 .0 ≡ v = ap (λ (x : ℕ × List ℕ). x .0) (c .1) in
+        let b = and-parts (leb low (s .0 .0)) (ltb (s .0 .0) end) (c .0) in
+        let p = spells-back (whole - length bs) bs (s .0 .0) (s .0 .1) u (s .1) in
+        rw (sym i) (leb-true low (s .0 .0) (b .0), ltb-true (s .0 .0) end (b .1), p .0);
     so = λ bs v rest u e.
-      let s = and-ok (number (whole - length bs) bs) _ (v, rest) e in
-      let c = cond-ok (leb low (s .0 .0) && ltb (s .0 .0) end) (s .0) _ (v, rest) (s .2) in
-      let p = spells-back (whole - length bs) bs (s .0 .0) (s .0 .1) u (s .1) in
-      p .1 ∙ ap (λ (x : ℕ × List ℕ). spell (x .0) ++ x .1) (c .1)
+        let s = and-ok (number (whole - length bs) bs) _ (v, rest) e in
+        let c = cond-ok (leb low (s .0 .0) && ltb (s .0 .0) end) (s .0) _ (v, rest) (s .2) in
+        let p = spells-back (whole - length bs) bs (s .0 .0) (s .0 .1) u (s .1) in
+        p .1 ∙ ap (λ (x : ℕ × List ℕ). spell (x .0) ++ x .1) (c .1);
   }
 
 -- signed values
@@ -135,8 +135,9 @@ zag-zig (negsuc n) =
 zig-zag : (u : ℕ) → zig (zag u) ≡ u
 zig-zag u =
     elim (cases-bool (eqb (u % 2) 0)) [
-      inl e ↦ let h = eqb-true (u % 2) 0 e in rw e (omega arith)
-    | inr e ↦ let h = eqb-false (u % 2) 0 e in rw e (omega arith) ]
+      | inl e ↦ let h = eqb-true (u % 2) 0 e in rw e (omega arith)
+      | inr e ↦ let h = eqb-false (u % 2) 0 e in rw e (omega arith)
+    ]
 
 zig-limit : (z : ℤ) → voices-range z ≡ true → zig z ≤ number-limit
 zig-limit (pos n) e = let h = ltb-true n (2 ^ 31) e in omega arith
@@ -145,30 +146,31 @@ zig-limit (negsuc n) e = let h = ltb-true n (2 ^ 31) e in omega arith
 zag-range : (u : ℕ) → u ≤ number-limit → voices-range (zag u) ≡ true
 zag-range u h =
     elim (cases-bool (eqb (u % 2) 0)) [
-      inl e ↦ rw e (lt-ltb (u / 2) (2 ^ 31) (omega arith))
-    | inr e ↦ rw e (lt-ltb (u / 2) (2 ^ 31) (omega arith)) ]
+      | inl e ↦ rw e (lt-ltb (u / 2) (2 ^ 31) (omega arith))
+      | inr e ↦ rw e (lt-ltb (u / 2) (2 ^ 31) (omega arith))
+    ]
 
 -- the parts of an entry
 signed-faithful : (b : Bool) (whole : ℕ) → Faithful (signed-read b whole) (λ z. part-bytes (signed-number b z)) (λ z. signed-fits b z ≡ true)
 signed-faithful true whole = record {
   back = λ z rest g. rw (reads-back (whole - length (spell (zig z) ++ rest)) (zig z) rest (zig-limit z g), zag-zig z);
   good = λ bs z rest u e.
-    let s = and-ok (number (whole - length bs) bs) _ (z, rest) e in
-    let p = spells-back (whole - length bs) bs (s .0 .0) (s .0 .1) u (s .1) in
-    let i : zag (s .0 .0) ≡ z = pair-0 (s .2) in
-    rw (sym i) (zag-range (s .0 .0) (p .0));
+      let s = and-ok (number (whole - length bs) bs) _ (z, rest) e in
+      let p = spells-back (whole - length bs) bs (s .0 .0) (s .0 .1) u (s .1) in
+      let i : zag (s .0 .0) ≡ z = pair-0 (s .2) in
+      rw (sym i) (zag-range (s .0 .0) (p .0));
   so = λ bs z rest u e.
-    let s = and-ok (number (whole - length bs) bs) _ (z, rest) e in
-    let p = spells-back (whole - length bs) bs (s .0 .0) (s .0 .1) u (s .1) in
-    let i : zag (s .0 .0) ≡ z = pair-0 (s .2) in
-    let j : s .0 .1 ≡ rest = pair-1 (s .2) in
-    let k : zig z ≡ s .0 .0 = ap zig (sym i) ∙ zig-zag (s .0 .0) in
-    p .1 ∙ (ap (λ (v : ℕ). spell v ++ s .0 .1) (sym k) ∙ ap (λ (xs : List ℕ). spell (zig z) ++ xs) j)
+      let s = and-ok (number (whole - length bs) bs) _ (z, rest) e in
+      let p = spells-back (whole - length bs) bs (s .0 .0) (s .0 .1) u (s .1) in
+      let i : zag (s .0 .0) ≡ z = pair-0 (s .2) in
+      let j : s .0 .1 ≡ rest = pair-1 (s .2) in
+      let k : zig z ≡ s .0 .0 = ap zig (sym i) ∙ zig-zag (s .0 .0) in
+      p .1 ∙ (ap (λ (v : ℕ). spell v ++ s .0 .1) (sym k) ∙ ap (λ (xs : List ℕ). spell (zig z) ++ xs) j);
 }
 signed-faithful false whole = record {
   back = λ z rest g. zero-back z rest g;
   good = λ bs z rest u e. let i : pos 0 ≡ z = pair-0 e in rw (sym i);
-  so = λ bs z rest u e. pair-1 e
+  so = λ bs z rest u e. pair-1 e;
 }
   where
     zero-back : (z : ℤ) (rest : List ℕ) → signed-fits false z ≡ true → _≡_ {A = Answer ℤ} (Ok (pos 0, rest)) (Ok (z, rest))
@@ -184,14 +186,14 @@ plain-faithful : (o : Option ℕ) (whole : ℕ) → Small-end o → Faithful (pl
 plain-faithful None whole small = record {
   back = λ p rest g. let h = eqb-true p 0 g in rw h;
   good = λ bs p rest u e. let i : 0 ≡ p = pair-0 e in rw (sym i);
-  so = λ bs p rest u e. pair-1 e
+  so = λ bs p rest u e. pair-1 e;
 }
 plain-faithful (Some end) whole small =
     let f = field-faithful whole 0 end BadEntry in
     record {
       back = λ p rest g. let h = ltb-true p end g in f .back p rest (omega arith, h, small-part end p small h);
       good = λ bs p rest u e. lt-ltb p end (f .good bs p rest u e .1);
-      so = f .so
+      so = f .so;
     }
   where
     small-part : (end p : ℕ) → Small-end (Some end) → p < end → p ≤ number-limit
@@ -226,7 +228,8 @@ module _ (kind : ChargeKind) (whole : ℕ) where
       record {
         after = s .0 .1;
         signed-at = s .1 ∙ ap (λ (x : Entry). Ok (x .signed, s .0 .1)) i;
-        plain-at = t .1 ∙ (ap (λ (x : Entry). Ok (x .plain, t .0 .1)) i ∙ ap (λ (xs : List ℕ). Ok (e .plain, xs)) j) }
+        plain-at = t .1 ∙ (ap (λ (x : Entry). Ok (x .plain, t .0 .1)) i ∙ ap (λ (xs : List ℕ). Ok (e .plain, xs)) j);
+      }
 
   entry-so : (bs : List ℕ) (e : Entry) (rest : List ℕ) → Bytes bs → entry kind whole bs ≡ Ok (e, rest) → (fits kind e ≡ true) × (bs ≡ entry-bytes kind e ++ rest)
   entry-so bs e rest u q =
@@ -235,15 +238,16 @@ module _ (kind : ChargeKind) (whole : ℕ) where
       let a = signed .so bs (e .signed) after u (p .signed-at) in
       let ua = bytes-after bs (part-bytes (signed-number (signed-part kind) (e .signed))) after u a in
       let b = plain .so after (e .plain) rest ua (p .plain-at) in
-      let g = append-assoc (part-bytes (signed-number (signed-part kind) (e .signed))) (part-bytes (plain-number (plain-end kind) (e .plain))) rest in
-      (and-from (signed-fits (signed-part kind) (e .signed)) (plain-fits (plain-end kind) (e .plain)) (signed .good bs (e .signed) after u (p .signed-at)) (plain .good after (e .plain) rest ua (p .plain-at)),
-        a ∙ (ap (λ (xs : List ℕ). part-bytes (signed-number (signed-part kind) (e .signed)) ++ xs) b ∙ sym g))
+      let g = append-assoc (part-bytes (signed-number (signed-part kind) (e .signed))) (part-bytes (plain-number (plain-end kind) (e .plain))) rest in (
+        and-from (signed-fits (signed-part kind) (e .signed)) (plain-fits (plain-end kind) (e .plain)) (signed .good bs (e .signed) after u (p .signed-at)) (plain .good after (e .plain) rest ua (p .plain-at)),
+        a ∙ (ap (λ (xs : List ℕ). part-bytes (signed-number (signed-part kind) (e .signed)) ++ xs) b ∙ sym g),
+      )
 
   pub entry-faithful : Faithful (entry kind whole) (entry-bytes kind) (λ e. fits kind e ≡ true)
   entry-faithful = record {
     back = λ e rest g.
-      let both = and-parts (signed-fits (signed-part kind) (e .signed)) (plain-fits (plain-end kind) (e .plain)) g in
-      rw (append-assoc, signed .back (e .signed) (part-bytes (plain-number (plain-end kind) (e .plain)) ++ rest) (both .0), plain .back (e .plain) rest (both .1));
+        let both = and-parts (signed-fits (signed-part kind) (e .signed)) (plain-fits (plain-end kind) (e .plain)) g in
+        rw (append-assoc, signed .back (e .signed) (part-bytes (plain-number (plain-end kind) (e .plain)) ++ rest) (both .0), plain .back (e .plain) rest (both .1));
     good = λ bs e rest u q. entry-so bs e rest u q .0;
-    so = λ bs e rest u q. entry-so bs e rest u q .1
+    so = λ bs e rest u q. entry-so bs e rest u q .1;
   }

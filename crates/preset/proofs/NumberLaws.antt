@@ -36,15 +36,17 @@ tops-all : (bs : List ℕ) → All Top (take (tops bs) bs)
 tops-all [] = tt
 tops-all (b ∷ bs) =
     elim (leb-tells (suc b) 128) [
-      inl p ↦ rw (p .0) tt
-    | inr p ↦ rw (p .0) (omega arith, tops-all bs) ]
+      | inl p ↦ rw (p .0) tt
+      | inr p ↦ rw (p .0) (omega arith, tops-all bs)
+    ]
 
 tops-stop : (bs : List ℕ) → tops bs < length bs → getD bs (tops bs) 0 < 128
 tops-stop [] h = absurd (omega arith)
 tops-stop (b ∷ bs) h =
     elim (leb-tells (suc b) 128) [
-      inl p ↦ rw (p .0) (omega arith)
-    | inr p ↦ rw (p .0) (tops-stop bs (let h′ = rw (p .0) at h in omega arith)) ]
+      | inl p ↦ rw (p .0) (omega arith)
+      | inr p ↦ rw (p .0) (tops-stop bs (let h′ = rw (p .0) at h in omega arith))
+    ]
 
 -- bytes with their top bit set come first
 tops-front : (hs ys : List ℕ) → All Top hs → tops (hs ++ ys) ≡ length hs + tops ys
@@ -117,10 +119,12 @@ data Outcome (place : ℕ) (bs : List ℕ) : Type 0 where
 outcome : (place : ℕ) (bs : List ℕ) → Outcome place bs
 outcome place bs =
     elim (cases-bool (misspelt bs)) [
-      inl m ↦ bad m (rw m)
-    | inr m ↦ elim (cases-bool (finished bs)) [
-        inl f ↦ done m f (rw (m, f))
-      | inr f ↦ cut m f (rw (m, f)) ] ]
+      | inl m ↦ bad m (rw m)
+      | inr m ↦ elim (cases-bool (finished bs)) [
+        | inl f ↦ done m f (rw (m, f))
+        | inr f ↦ cut m f (rw (m, f))
+      ]
+    ]
 
 -- what is known of bytes that are not misspelt
 record Well (bs : List ℕ) : Type 0 where
@@ -135,7 +139,8 @@ well bs m =
     record {
       led = eqb-false (getD bs 0 0) 128 (a .0);
       few = leb-false most-bytes (tops bs) (b .0);
-      small = λ f. let s = b .1 in grind (arith, tells) }
+      small = λ f. let s = b .1 in grind (arith, tells);
+    }
 
 digits-after : (h : ℕ) (ds : List ℕ) → 0 < h → Under 128 ds → digitsOf 128 (numberAfter 128 h ds) ≡ digitsOf 128 h ++ ds
 digits-after h [] k u = sym (append-nil (digitsOf 128 h))
@@ -212,33 +217,35 @@ distinct place e = let z : _≡_ {A = ℕ} 2 1 = ap code-in e in absurd (omega a
 pub spells-back : Number-spells-back
 spells-back place bs v rest u e =
     elim (outcome place bs) [
-      bad m n ↦ never (sym n ∙ e)
-    | cut m f n ↦ never (sym n ∙ e)
-    | done m f n ↦
-        let w = well bs m in
-        let t : tops bs < length bs = ltb-true (tops bs) (length bs) f in
-        let p : _≡_ {A = Answer ℕ} (Ok (value (first bs), drop (tops bs + 1) bs)) (Ok (v, rest)) = sym n ∙ e in
-        let pair : _≡_ {A = ℕ × List ℕ} (value (first bs), drop (tops bs + 1) bs) (v, rest) = cc in
-        let ev : value (first bs) ≡ v = ap (λ (x : ℕ × List ℕ). x .0) pair in
-        let er : drop (tops bs + 1) bs ≡ rest = ap (λ (x : ℕ × List ℕ). x .1) pair in
-        let hs = take (tops bs) bs in
-        let r = getD bs (tops bs) 0 in
-        let whole = apart bs t in
-        let led : getD (hs ++ (r ∷ drop (tops bs + 1) bs)) 0 0 ≡ 128 → ⊥ = λ z. w .led (ap (λ (xs : List ℕ). getD xs 0 0) whole ∙ z) in
-        let s = spelt-so hs r (r ∷ drop (tops bs + 1) bs) (tops-all bs) (all-take (λ b. b < 256) (tops bs) bs u) (tops-stop bs t) led in
-        let spelt : spell v ≡ hs ++ (r ∷ []) = ap spell (sym ev ∙ ap value (front-is bs t)) ∙ s in
-        (omega (arith, w .small f), whole ∙ (sym (append-assoc hs (r ∷ []) (drop (tops bs + 1) bs)) ∙ rw (spelt, er))) ]
+      | bad m n ↦ never (sym n ∙ e)
+      | cut m f n ↦ never (sym n ∙ e)
+      | done m f n ↦
+          let w = well bs m in
+          let t : tops bs < length bs = ltb-true (tops bs) (length bs) f in
+          let p : _≡_ {A = Answer ℕ} (Ok (value (first bs), drop (tops bs + 1) bs)) (Ok (v, rest)) = sym n ∙ e in
+          let pair : _≡_ {A = ℕ × List ℕ} (value (first bs), drop (tops bs + 1) bs) (v, rest) = cc in
+          let ev : value (first bs) ≡ v = ap (λ (x : ℕ × List ℕ). x .0) pair in
+          let er : drop (tops bs + 1) bs ≡ rest = ap (λ (x : ℕ × List ℕ). x .1) pair in
+          let hs = take (tops bs) bs in
+          let r = getD bs (tops bs) 0 in
+          let whole = apart bs t in
+          let led : getD (hs ++ (r ∷ drop (tops bs + 1) bs)) 0 0 ≡ 128 → ⊥ = λ z. w .led (ap (λ (xs : List ℕ). getD xs 0 0) whole ∙ z) in
+          let s = spelt-so hs r (r ∷ drop (tops bs + 1) bs) (tops-all bs) (all-take (λ b. b < 256) (tops bs) bs u) (tops-stop bs t) led in
+          let spelt : spell v ≡ hs ++ (r ∷ []) = ap spell (sym ev ∙ ap value (front-is bs t)) ∙ s in
+          (omega (arith, w .small f), whole ∙ (sym (append-assoc hs (r ∷ []) (drop (tops bs + 1) bs)) ∙ rw (spelt, er)))
+    ]
 
 cut-short-from : (place : ℕ) (bs : List ℕ) → number place bs ≡ Err (refused-at CutShort place) → Cut-short bs
 cut-short-from place bs e =
     elim (outcome place bs) [
-      bad m n ↦ distinct place (sym n ∙ e)
-    | done m f n ↦ never (sym e ∙ n)
-    | cut m f n ↦
-        let w = well bs m in
-        let l = ltb-false (tops bs) (length bs) f in
-        let all = take-all (tops bs) bs l in
-        record { unfinished = rw all at (tops-all bs); few = omega (arith, w .few, tops-le bs); first-byte = w .led } ]
+      | bad m n ↦ distinct place (sym n ∙ e)
+      | done m f n ↦ never (sym e ∙ n)
+      | cut m f n ↦
+          let w = well bs m in
+          let l = ltb-false (tops bs) (length bs) f in
+          let all = take-all (tops bs) bs l in
+          record { unfinished = rw all at (tops-all bs); few = omega (arith, w .few, tops-le bs); first-byte = w .led }
+    ]
 
 cut-short-to : (place : ℕ) (bs : List ℕ) → Cut-short bs → number place bs ≡ Err (refused-at CutShort place)
 cut-short-to place bs c =
@@ -253,22 +260,25 @@ leading-is (b ∷ bs) e = ap (λ (x : ℕ). x ∷ bs) e
 misspelt-from : (place : ℕ) (bs : List ℕ) → number place bs ≡ Err (refused-at Misspelt place) → Misspelling bs
 misspelt-from place bs e =
     elim (outcome place bs) [
-      done m f n ↦ never (sym e ∙ n)
-    | cut m f n ↦ distinct place (sym e ∙ n)
-    | bad m n ↦
-        elim (or-cases (eqb (getD bs 0 0) 128) _ m) [
-          inl a ↦ leading (drop 1 bs) (leading-is bs (eqb-true (getD bs 0 0) 128 a))
-        | inr b ↦ elim (or-cases (leb most-bytes (tops bs)) _ b) [
-            inl a ↦
-              let five = leb-true most-bytes (tops bs) a in
-              let all = tops-all bs in
-              let five-of = all-take Top most-bytes (take (tops bs) bs) all in
-              long (take most-bytes bs) (drop most-bytes bs) (sym (take-append-drop most-bytes bs)) (length-take-le most-bytes bs (omega (arith, tops-le bs))) (rw (take-take most-bytes (tops bs) bs five) at five-of)
-          | inr a ↦
-              let both = and-parts (finished bs) _ a in
-              let t = ltb-true (tops bs) (length bs) (both .0) in
-              let over = ltb-true number-limit (value (first bs)) (both .1) in
-              large (take (tops bs) bs) (getD bs (tops bs) 0) (drop (tops bs + 1) bs) (apart bs t) (tops-all bs) (tops-stop bs t) (rw (front-is bs t) at over) ] ] ]
+      | done m f n ↦ never (sym e ∙ n)
+      | cut m f n ↦ distinct place (sym e ∙ n)
+      | bad m n ↦
+          elim (or-cases (eqb (getD bs 0 0) 128) _ m) [
+            | inl a ↦ leading (drop 1 bs) (leading-is bs (eqb-true (getD bs 0 0) 128 a))
+            | inr b ↦ elim (or-cases (leb most-bytes (tops bs)) _ b) [
+              | inl a ↦
+                  let five = leb-true most-bytes (tops bs) a in
+                  let all = tops-all bs in
+                  let five-of = all-take Top most-bytes (take (tops bs) bs) all in
+                  long (take most-bytes bs) (drop most-bytes bs) (sym (take-append-drop most-bytes bs)) (length-take-le most-bytes bs (omega (arith, tops-le bs))) (rw (take-take most-bytes (tops bs) bs five) at five-of)
+              | inr a ↦
+                  let both = and-parts (finished bs) _ a in
+                  let t = ltb-true (tops bs) (length bs) (both .0) in
+                  let over = ltb-true number-limit (value (first bs)) (both .1) in
+                  large (take (tops bs) bs) (getD bs (tops bs) 0) (drop (tops bs + 1) bs) (apart bs t) (tops-all bs) (tops-stop bs t) (rw (front-is bs t) at over)
+            ]
+          ]
+    ]
 
 misspelt-to : (place : ℕ) (bs : List ℕ) → Misspelling bs → number place bs ≡ Err (refused-at Misspelt place)
 misspelt-to place bs (leading rest e) = number-leading place bs (ap (λ (xs : List ℕ). getD xs 0 0) e)

@@ -89,11 +89,15 @@ sized-from h e =
     let n = and-parts (leb 1 (h .n)) (ltb (h .n) 13) (all .1 .0) in
     let k = and-parts (leb 1 (h .k)) (ltb (h .k) 13) (all .1 .1 .1 .0) in
     record {
-      q₁ = leb-true 2 (h .q) (q .0); q₂ = ltb-true (h .q) 9 (q .1);
-      n₁ = leb-true 1 (h .n) (n .0); n₂ = ltb-true (h .n) 13 (n .1);
+      q₁ = leb-true 2 (h .q) (q .0);
+      q₂ = ltb-true (h .q) 9 (q .1);
+      n₁ = leb-true 1 (h .n) (n .0);
+      n₂ = ltb-true (h .n) 13 (n .1);
       l₁ = ltb-true (h .l) (h .n) (all .1 .1 .0);
-      k₁ = leb-true 1 (h .k) (k .0); k₂ = ltb-true (h .k) 13 (k .1);
-      few = all .1 .1 .1 .1 .0 }
+      k₁ = leb-true 1 (h .k) (k .0);
+      k₂ = ltb-true (h .k) 13 (k .1);
+      few = all .1 .1 .1 .1 .0;
+    }
 
 -- each item is allowed
 fits-from : {X : Type 0} (ok : X → Bool) (stop : Stop) (i : ℕ) (xs : List X) → each-fits ok stop i xs ≡ Ok tt → All (λ x. ok x ≡ true) xs
@@ -125,6 +129,7 @@ head-from h head e =
   where
     ok-is : {X : Type 0} {x y : X} → _≡_ {A = Result X Refusal} (Ok x) (Ok y) → x ≡ y
     ok-is e = cc
+
     okOr-some : {X : Type 0} (o : Option X) (f : Refusal) (x : X) → okOr o f ≡ Ok x → o ≡ Some x
     okOr-some None f x e = never e
     okOr-some (Some y) f x e = let i : y ≡ x = cc in ap (λ z. Some z) i
@@ -146,7 +151,8 @@ good-from h letters entries p e =
       letter-count = length-take-le (head .header .q ^ head .header .n) letters (leb-true _ _ (room .0));
       entry-count = length-take-le (head .header .q ^ head .header .k) entries (leb-true _ _ (room .1));
       letters-fit = subst (λ (x : Preset). All (λ y. ltb y (x .head .header .q) ≡ true) (x .letters)) (sym (s .1)) (fits-from (λ x. ltb x (b .0 .head .header .q)) BadLetter 0 (b .0 .letters) (d .1));
-      entries-fit = subst (λ (x : Preset). All (λ y. fits (x .head .kind) y ≡ true) (x .entries)) (sym (s .1)) (fits-from (fits (b .0 .head .kind)) BadEntry 0 (b .0 .entries) (d .2)) } in
+      entries-fit = subst (λ (x : Preset). All (λ y. fits (x .head .kind) y ≡ true) (x .entries)) (sym (s .1)) (fits-from (fits (b .0 .head .kind)) BadEntry 0 (b .0 .entries) (d .2));
+    } in
     rw (sym is) g
   where
     ok-same : {X : Type 0} {x y : X} → _≡_ {A = Result X Refusal} (Ok x) (Ok y) → x ≡ y
@@ -208,11 +214,11 @@ good-reads p rest g =
     let entries = sent (entry-bytes (p .head .kind)) (p .entries) in
     let joins : bs ≡ numbers ++ (letters ++ (entries ++ rest)) = append-assoc numbers (letters ++ entries) rest ∙ ap (λ (xs : List ℕ). numbers ++ xs) (append-assoc letters entries rest) in
     let ls : letters-read whole (p .head) (letters ++ (entries ++ rest)) ≡ Ok (p .letters, entries ++ rest) =
-        rw (sym (g .letter-count)) (many-back (letter (h .q) whole) spell _ (field-faithful whole 0 (h .q) BadLetter) (p .letters) (entries ++ rest) (letter-within whole (h .q) (g .sized .q₂) (p .letters) (g .letters-fit))) in
+    rw (sym (g .letter-count)) (many-back (letter (h .q) whole) spell _ (field-faithful whole 0 (h .q) BadLetter) (p .letters) (entries ++ rest) (letter-within whole (h .q) (g .sized .q₂) (p .letters) (g .letters-fit))) in
     let es : entries-read whole (p .head) (entries ++ rest) ≡ Ok (p .entries, rest) =
-        rw (sym (g .entry-count)) (many-back (entry (p .head .kind) whole) (entry-bytes (p .head .kind)) _ (entry-faithful (p .head .kind) whole) (p .entries) rest (g .entries-fit)) in
+    rw (sym (g .entry-count)) (many-back (entry (p .head .kind) whole) (entry-bytes (p .head .kind)) _ (entry-faithful (p .head .kind) whole) (p .entries) rest (g .entries-fit)) in
     preset-is bs (letters ++ (entries ++ rest)) (entries ++ rest) rest (p .head) (p .letters) (p .entries)
-      (ap (head-read whole) joins ∙ header-reads whole (p .head) (letters ++ (entries ++ rest)) (g .named) (g .sized)) ls es
+    (ap (head-read whole) joins ∙ header-reads whole (p .head) (letters ++ (entries ++ rest)) (g .named) (g .sized)) ls es
 
 pub preset-reads-back : Preset-reads-back
 preset-reads-back h letters entries p rest e = good-reads p rest (good-from h letters entries p e)
@@ -268,8 +274,8 @@ header-sent whole bs head tail u e =
     let s₅ = f₅ .so r₄ (h .k) r₅ u₄ (k .1) in
     let g₅ = f₅ .good r₄ (h .k) r₅ u₄ (k .1) in
     sent-head bs r₁ r₂ r₃ r₄ r₅ kind h head tail s₁ s₂ s₃ s₄ s₅ refl
-      (record { q₁ = g₂ .0; q₂ = g₂ .1; n₁ = g₃ .0; n₂ = g₃ .1; l₁ = g₄ .1; k₁ = g₅ .0; k₂ = g₅ .1; few = done .0 })
-      (ap (λ (x : Head × List ℕ). x .0) (done .1)) (ap (λ (x : Head × List ℕ). x .1) (done .1))
+    (record { q₁ = g₂ .0; q₂ = g₂ .1; n₁ = g₃ .0; n₂ = g₃ .1; l₁ = g₄ .1; k₁ = g₅ .0; k₂ = g₅ .1; few = done .0 })
+    (ap (λ (x : Head × List ℕ). x .0) (done .1)) (ap (λ (x : Head × List ℕ). x .1) (done .1))
   where
     sent-head : (bs r₁ r₂ r₃ r₄ r₅ : List ℕ) (kind : ChargeKind) (h : Header) (head : Head) (tail : List ℕ)
         → bs ≡ spell (h .kind) ++ r₁ → r₁ ≡ spell (h .q) ++ r₂ → r₂ ≡ spell (h .n) ++ r₃ → r₃ ≡ spell (h .l) ++ r₄ → r₄ ≡ spell (h .k) ++ r₅
@@ -304,8 +310,8 @@ preset-sent bs p rest u e =
     let u₂ = bytes-after r₁ (sent spell ls) r₂ u₁ (l .so) in
     let x = many-sent (entry (head .kind) whole) (entry-bytes (head .kind)) _ (entry-faithful (head .kind) whole) (q ^ head .header .k) r₂ es r₃ u₂ (c .1) in
     sent-all bs r₁ r₂ r₃ head ls es p rest (hs .so) (l .so) (x .so)
-      (record { named = hs .named; sized = hs .sized; letter-count = l .count; entry-count = x .count; letters-fit = within-letter q ls (l .good); entries-fit = x .good })
-      (pair-0 (c .2)) (pair-1 (c .2))
+    (record { named = hs .named; sized = hs .sized; letter-count = l .count; entry-count = x .count; letters-fit = within-letter q ls (l .good); entries-fit = x .good })
+    (pair-0 (c .2)) (pair-1 (c .2))
   where
     sent-all : (bs r₁ r₂ r₃ : List ℕ) (head : Head) (ls : List ℕ) (es : List Entry) (p : Preset) (rest : List ℕ)
         → bs ≡ sent spell (header-numbers (head .header)) ++ r₁ → r₁ ≡ sent spell ls ++ r₂ → r₂ ≡ sent (entry-bytes (head .kind)) es ++ r₃
@@ -346,7 +352,8 @@ pub preset-sizes : Preset-sizes
 preset-sizes bs p u e =
     let g = preset-sent bs p [] u (whole-is bs p e) .good in
     let h = p .head .header in
-    let s = g .sized in
-    (ap kindOf (sym (g .named)) ∙ number-kind (p .head .kind),
+    let s = g .sized in (
+      ap kindOf (sym (g .named)) ∙ number-kind (p .head .kind),
       counted-some most-window (h .q) (h .n) (length (p .letters)) (omega (arith, s .n₂)) (few-part (h .q) (h .n + h .k - 1) (h .n) (omega (arith, s .q₁)) (omega (arith, s .k₁)) (s .few)) (g .letter-count),
-      counted-some most-width (h .q) (h .k) (length (p .entries)) (omega (arith, s .k₂)) (few-part (h .q) (h .n + h .k - 1) (h .k) (omega (arith, s .q₁)) (omega (arith, s .n₁)) (s .few)) (g .entry-count))
+      counted-some most-width (h .q) (h .k) (length (p .entries)) (omega (arith, s .k₂)) (few-part (h .q) (h .n + h .k - 1) (h .k) (omega (arith, s .q₁)) (omega (arith, s .n₁)) (s .few)) (g .entry-count),
+    )

@@ -66,7 +66,6 @@ module _ (place : ℕ) (bs : List ℕ) where
         let is : number place bs ≡ Ok (value (take (tops bs + 1) bs), drop (tops bs + 1) bs) = grind (arith, tells) in
         is ∙ ap (λ (n : ℕ). Ok (value (take (n + 1) bs), drop (n + 1) bs)) e
 
-
 -- A turn of the reader: the bytes before i have their top bit set, and their groups have the value `high`.
 module _ (bs rest : List ℕ) (i high : ℕ) (at : rest ≡ drop i bs) (top : tops bs ≡ i + tops rest) (sum : high ≡ value (take i bs)) where
   pub turn-cut : (place : ℕ) → (getD bs 0 0 ≡ 128 → ⊥) → i < most-bytes → length rest < 1 → _≡_ {A = Answer ℕ} (Err (refused-at CutShort place)) (number place bs)

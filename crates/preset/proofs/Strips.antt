@@ -37,7 +37,7 @@ over-over {X} strip at bs cs h =
     let a : over strip at bs ≡ p ++ drop n strip = sym (append-assoc (take at strip) bs (drop n strip)) in
     let t : take n (over strip at bs) ≡ p = ap (take n) a ∙ take-at p (drop n strip) n lp in
     let d : drop (n + length cs) (over strip at bs) ≡ drop (n + length cs) strip =
-        sym (drop-drop (length cs) n (over strip at bs)) ∙ (ap (λ (l : List X). drop (length cs) (drop n l)) a ∙ (ap (drop (length cs)) (drop-at p (drop n strip) n lp) ∙ drop-drop (length cs) n strip)) in
+    sym (drop-drop (length cs) n (over strip at bs)) ∙ (ap (λ (l : List X). drop (length cs) (drop n l)) a ∙ (ap (drop (length cs)) (drop-at p (drop n strip) n lp) ∙ drop-drop (length cs) n strip)) in
     let e : at + length (bs ++ cs) ≡ n + length cs = omega (arith, length-append bs cs) in
     let f = append-assoc (take at strip) bs (cs ++ drop (n + length cs) strip) in
     let g = append-assoc bs cs (drop (n + length cs) strip) in

@@ -34,12 +34,12 @@ abbrev pub letter-format : Format ℕ
 letter-format = record {
   reads = λ shape. letter (shape .q);
   fits = λ shape x. ltb x (shape .q);
-  stop = BadLetter
+  stop = BadLetter;
 }
 
 abbrev pub entry-format : Format Entry
 entry-format = record {
   reads = λ shape. entry (shape .kind);
   fits = λ shape. entry-fits (shape .kind);
-  stop = BadEntry
+  stop = BadEntry;
 }

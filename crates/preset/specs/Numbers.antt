@@ -55,8 +55,8 @@ misspelt bs = eqb (getD bs 0 0) 128 || (leb most-bytes (tops bs) || (finished bs
 abbrev pub number : ℕ → List ℕ → Answer ℕ
 number place bs =
     cond (misspelt bs)
-      (Err (refused-at Misspelt place))
-      (cond (finished bs) (Ok (value (first bs), drop (tops bs + 1) bs)) (Err (refused-at CutShort place)))
+    (Err (refused-at Misspelt place))
+    (cond (finished bs) (Ok (value (first bs), drop (tops bs + 1) bs)) (Err (refused-at CutShort place)))
 
 -- Bytes that are cut short: each has its top bit set, there are at most four, and the first is not 80
 -- hexadecimal.
@@ -99,8 +99,8 @@ Number-spells-back =
 abbrev pub spelling : List ℕ → ℕ → ℕ → Result (List ℕ) Refusal
 spelling strip at v =
     cond (leb v number-limit)
-      (cond (leb (at + length (spell v)) (length strip)) (Ok (spell v)) (Err (refused-at ShortStrip 0)))
-      (Err (refused-at Misspelt 0))
+    (cond (leb (at + length (spell v)) (length strip)) (Ok (spell v)) (Err (refused-at ShortStrip 0)))
+    (Err (refused-at Misspelt 0))
 
 -- the answer is the index after the number
 abbrev pub number-end : List ℕ → ℕ → ℕ → Result ℕ Refusal

@@ -55,8 +55,8 @@ head-read whole bs =
     andThen (field whole 0 (n .0) BadReach (n .1)) (λ l.
     andThen (field whole 1 (suc most-width) BadWidth (l .1)) (λ k.
     cond (few-words (q .0) (n .0 + k .0 - 1))
-      (Ok (record { kind = kind .0; header = record { kind = numberOf (kind .0); q = q .0; n = n .0; l = l .0; k = k .0 } }, k .1))
-      (Err (refused-at TooManyWords (whole - length (l .1)))))))))
+    (Ok (record { kind = kind .0; header = record { kind = numberOf (kind .0); q = q .0; n = n .0; l = l .0; k = k .0 } }, k .1))
+    (Err (refused-at TooManyWords (whole - length (l .1)))))))))
 
 -- the letters and the entries that follow a header
 abbrev pub letters-read : ℕ → Head → List ℕ → Answer (List ℕ)

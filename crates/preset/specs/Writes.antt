@@ -52,8 +52,8 @@ fronts h letters entries =
 abbrev pub strips-checked : Head → List ℕ → List Entry → Result Preset Refusal
 strips-checked h letters entries =
     cond (leb (h .header .q ^ h .header .n) (length letters) && leb (h .header .q ^ h .header .k) (length entries))
-      (Ok (fronts h letters entries))
-      (Err (refused-at ShortStrip 0))
+    (Ok (fronts h letters entries))
+    (Err (refused-at ShortStrip 0))
 
 -- each letter and each entry of a preset is allowed
 abbrev pub contents-checked : Preset → Result (Unit {0}) Refusal

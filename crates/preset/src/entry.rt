@@ -117,7 +117,11 @@ fn fits_plain(kind: ChargeKind, value: u64) -> bool
 fn signed_number(kind: ChargeKind, entry: Entry) -> Option<u64>
     ensures { λ r. ⌜ r ≡ signed-number (signed-part kind) (entry .signed) ⌝ }
 {
-    if has_signed(kind) { Some(to_number(entry.signed)) } else { None }
+    if has_signed(kind) {
+        Some(to_number(entry.signed))
+    } else {
+        None
+    }
 }
 
 // The number that the plain part is sent as, if the kind has one.

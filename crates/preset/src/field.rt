@@ -10,7 +10,13 @@ use fault::Fault;
 use fault::Stop;
 
 // A number from `low` to `end` - 1 at the front of the input, the last part of an input of `whole` bytes.
-pub(crate) fn read_field(whole: usize, input: &[u8], low: u64, end: u64, stop: Stop) -> Result<(u64, &[u8]), Fault>
+pub(crate) fn read_field(
+    whole: usize,
+    input: &[u8],
+    low: u64,
+    end: u64,
+    stop: Stop,
+) -> Result<(u64, &[u8]), Fault>
     requires { ⌜ length (now input) ≤ whole ⌝ }
     ensures answer { λ r. ⌜ seen r ≡ field whole low end stop (now (input .entry)) ⌝ }
     ensures rest { λ r. ⌜ made r (λ p. length (now (p .1)) < length (now (input .entry))) ⌝ }

@@ -59,7 +59,10 @@ impl Head {
         requires { ⌜ self .header .q ≤ most-letters ⌝ }
         ensures { λ r. ⌜ (r .kind ≡ self .kind) × (r .q ≡ self .header .q) ⌝ }
     {
-        Shape { kind: self.kind, q: self.header.q as u8 }
+        Shape {
+            kind: self.kind,
+            q: self.header.q as u8,
+        }
     }
 }
 
@@ -103,7 +106,10 @@ fn read_kind(whole: usize, input: &[u8]) -> Result<(ChargeKind, &[u8]), Fault>
     let place = whole - input.len();
     let (number, rest) = read_number(input, place)?;
     let Some(kind) = ChargeKind::from_number(number) else {
-        return Err(Fault { stop: Stop::UnknownKind, place });
+        return Err(Fault {
+            stop: Stop::UnknownKind,
+            place,
+        });
     };
     Ok((kind, rest))
 }
@@ -116,14 +122,29 @@ pub(crate) fn read_head(input: &[u8]) -> Result<(Head, &[u8]), Fault>
 {
     let whole = input.len();
     let (kind, rest) = read_kind(whole, input)?;
-    let (q, rest) = read_field(whole, rest, LEAST_LETTERS, MOST_LETTERS + 1, Stop::BadAlphabet)?;
+    let (q, rest) = read_field(
+        whole,
+        rest,
+        LEAST_LETTERS,
+        MOST_LETTERS + 1,
+        Stop::BadAlphabet,
+    )?;
     let (n, rest) = read_field(whole, rest, 1, MOST_WINDOW + 1, Stop::BadWindow)?;
     let (l, rest) = read_field(whole, rest, 0, n, Stop::BadReach)?;
     let place = whole - rest.len();
     let (k, rest) = read_field(whole, rest, 1, MOST_WIDTH + 1, Stop::BadWidth)?;
     if !few_words(q, n + k - 1) {
-        return Err(Fault { stop: Stop::TooManyWords, place });
+        return Err(Fault {
+            stop: Stop::TooManyWords,
+            place,
+        });
     }
-    let header = Header { kind: kind.number(), q, n, l, k };
+    let header = Header {
+        kind: kind.number(),
+        q,
+        n,
+        l,
+        k,
+    };
     Ok((Head { kind, header }, rest))
 }

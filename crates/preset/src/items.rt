@@ -50,7 +50,12 @@ pub(crate) trait Encode: Copy {
 }
 
 // Passes over `count` items, and hands on the bytes after them.
-pub(crate) fn skip<T: Item>(shape: Shape, whole: usize, input: &[u8], count: usize) -> Result<&[u8], Fault>
+pub(crate) fn skip<T: Item>(
+    shape: Shape,
+    whole: usize,
+    input: &[u8],
+    count: usize,
+) -> Result<&[u8], Fault>
     requires { ⌜ length (now input) ≤ whole ⌝ }
     ensures answer { λ r. ⌜ passed r ≡ rest-of (many (T·Item .format .reads shape whole) count (now (input .entry))) ⌝ }
     ensures rest { λ r. ⌜ made r (λ p. length (now p) ≤ length (now (input .entry))) ⌝ }
@@ -97,7 +102,10 @@ pub(crate) fn check<T: Item>(shape: Shape, items: &[T]) -> Result<(), Fault>
 {
     for (i, item) in items.iter().enumerate() {
         if !item.fits(shape) {
-            return Err(Fault { stop: T::stop(), place: i });
+            return Err(Fault {
+                stop: T::stop(),
+                place: i,
+            });
         }
     }
     Ok(())

@@ -23,28 +23,43 @@ pub fn read_number(input: &[u8], place: usize) -> Result<(u64, &[u8]), Fault>
     ensures refusals { λ _. ⌜ Number-refusals ⌝ }
 {
     let [first, ..] = input else {
-        return Err(Fault { stop: Stop::CutShort, place });
+        return Err(Fault {
+            stop: Stop::CutShort,
+            place,
+        });
     };
     if *first == 0x80 {
-        return Err(Fault { stop: Stop::Misspelt, place });
+        return Err(Fault {
+            stop: Stop::Misspelt,
+            place,
+        });
     }
     let mut rest = input;
     let mut high: u64 = 0;
     for i in 0..MOST_BYTES {
         let [byte, tail @ ..] = rest else {
-            return Err(Fault { stop: Stop::CutShort, place });
+            return Err(Fault {
+                stop: Stop::CutShort,
+                place,
+            });
         };
         let value = high * 128 + (*byte % 128) as u64;
         if *byte < 0x80 {
             if value > MOST_NUMBER {
-                return Err(Fault { stop: Stop::Misspelt, place });
+                return Err(Fault {
+                    stop: Stop::Misspelt,
+                    place,
+                });
             }
             return Ok((value, tail));
         }
         high = value;
         rest = tail;
     }
-    Err(Fault { stop: Stop::Misspelt, place })
+    Err(Fault {
+        stop: Stop::Misspelt,
+        place,
+    })
 }
 
 // How many bytes a number takes.
@@ -106,10 +121,16 @@ pub fn write_number(value: u64, out: &mut [u8], at: usize) -> Result<usize, Faul
     ensures spells_back { λ _. ⌜ Number-spells-back ⌝ }
 {
     if value > MOST_NUMBER {
-        return Err(Fault { stop: Stop::Misspelt, place: 0 });
+        return Err(Fault {
+            stop: Stop::Misspelt,
+            place: 0,
+        });
     }
     if at > out.len() || out.len() - at < spelt_len(value) {
-        return Err(Fault { stop: Stop::ShortStrip, place: 0 });
+        return Err(Fault {
+            stop: Stop::ShortStrip,
+            place: 0,
+        });
     }
     Ok(put_number(value, out, at))
 }

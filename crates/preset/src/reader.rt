@@ -45,7 +45,12 @@ fn find_parts(input: &[u8]) -> Result<Scan<'_>, Fault>
     let shape = head.shape();
     let entries = skip::<u8>(shape, whole, letters, word_count(header.q, header.n))?;
     let rest = skip::<Entry>(shape, whole, entries, word_count(header.q, header.k))?;
-    Ok(Scan { head, letters, entries, rest })
+    Ok(Scan {
+        head,
+        letters,
+        entries,
+        rest,
+    })
 }
 
 // The same for strips of some lengths, which have to be long enough.
@@ -53,7 +58,10 @@ fn find_parts_for(input: &[u8], letters: usize, entries: usize) -> Result<Scan<'
     ensures { λ r. ⌜ Cases r (λ s. Scanned (now (input .entry)) s × (most-words ≤ letters) × (most-words ≤ entries)) (λ f. with-room letters entries (preset-at (now (input .entry))) ≡ Err (refusal f)) ⌝ }
 {
     if letters < STRIP || entries < STRIP {
-        return Err(Fault { stop: Stop::ShortStrip, place: 0 });
+        return Err(Fault {
+            stop: Stop::ShortStrip,
+            place: 0,
+        });
     }
     let scan = find_parts(input)?;
     Ok(scan)
@@ -70,12 +78,28 @@ fn fill_strips(input: &[u8], scan: Scan, letters: &mut [u8], entries: &mut [Entr
     let whole = input.len();
     let header = scan.head.header;
     let shape = scan.head.shape();
-    fill::<u8>(shape, whole, scan.letters, letters, word_count(header.q, header.n));
-    fill::<Entry>(shape, whole, scan.entries, entries, word_count(header.q, header.k));
+    fill::<u8>(
+        shape,
+        whole,
+        scan.letters,
+        letters,
+        word_count(header.q, header.n),
+    );
+    fill::<Entry>(
+        shape,
+        whole,
+        scan.entries,
+        entries,
+        word_count(header.q, header.k),
+    );
 }
 
 // The preset at the front of the input goes to the front of the strips, and the bytes after it are handed on.
-pub fn read_preset<'a>(input: &'a [u8], letters: &mut [u8], entries: &mut [Entry]) -> Result<(Header, &'a [u8]), Fault>
+pub fn read_preset<'a>(
+    input: &'a [u8],
+    letters: &mut [u8],
+    entries: &mut [Entry],
+) -> Result<(Header, &'a [u8]), Fault>
     ensures answer { λ r. ⌜ seen r ≡ header-and-rest (reading (now (letters .entry)) (now (entries .entry)) (now (input .entry))) ⌝ }
     ensures letters { λ _. ⌜ now (letters .exit) ≡ strip-after (λ p. p .0 .letters) (now (letters .entry)) (reading (now (letters .entry)) (now (entries .entry)) (now (input .entry))) ⌝ }
     ensures entries { λ _. ⌜ now (entries .exit) ≡ strip-after (λ p. p .0 .entries) (now (entries .entry)) (reading (now (letters .entry)) (now (entries .entry)) (now (input .entry))) ⌝ }
@@ -98,7 +122,10 @@ pub fn read_whole(input: &[u8], letters: &mut [u8], entries: &mut [Entry]) -> Re
 {
     let scan = find_parts_for(input, letters.len(), entries.len())?;
     if !scan.rest.is_empty() {
-        return Err(Fault { stop: Stop::SurplusBytes, place: input.len() - scan.rest.len() });
+        return Err(Fault {
+            stop: Stop::SurplusBytes,
+            place: input.len() - scan.rest.len(),
+        });
     }
     let header = scan.head.header;
     fill_strips(input, scan, letters, entries);

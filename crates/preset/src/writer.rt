@@ -44,19 +44,34 @@ fn check_sizes(header: Header) -> Result<(), Fault>
     ensures lawful { λ r. ⌜ made r (λ _. Lawful header) ⌝ }
 {
     if header.q < LEAST_LETTERS || header.q > MOST_LETTERS {
-        return Err(Fault { stop: Stop::BadAlphabet, place: 0 });
+        return Err(Fault {
+            stop: Stop::BadAlphabet,
+            place: 0,
+        });
     }
     if header.n < 1 || header.n > MOST_WINDOW {
-        return Err(Fault { stop: Stop::BadWindow, place: 0 });
+        return Err(Fault {
+            stop: Stop::BadWindow,
+            place: 0,
+        });
     }
     if header.l >= header.n {
-        return Err(Fault { stop: Stop::BadReach, place: 0 });
+        return Err(Fault {
+            stop: Stop::BadReach,
+            place: 0,
+        });
     }
     if header.k < 1 || header.k > MOST_WIDTH {
-        return Err(Fault { stop: Stop::BadWidth, place: 0 });
+        return Err(Fault {
+            stop: Stop::BadWidth,
+            place: 0,
+        });
     }
     if !few_words(header.q, header.n + header.k - 1) {
-        return Err(Fault { stop: Stop::TooManyWords, place: 0 });
+        return Err(Fault {
+            stop: Stop::TooManyWords,
+            place: 0,
+        });
     }
     Ok(())
 }
@@ -68,7 +83,10 @@ fn check_head(header: Header) -> Result<Head, Fault>
     ensures same { λ r. ⌜ made r (λ h. h .header ≡ header) ⌝ }
 {
     let Some(kind) = ChargeKind::from_number(header.kind) else {
-        return Err(Fault { stop: Stop::UnknownKind, place: 0 });
+        return Err(Fault {
+            stop: Stop::UnknownKind,
+            place: 0,
+        });
     };
     check_sizes(header)?;
     Ok(Head { kind, header })
@@ -93,7 +111,10 @@ fn check_preset(header: Header, letters: &[u8], entries: &[Entry]) -> Result<Hea
     let letter_count = word_count(header.q, header.n);
     let entry_count = word_count(header.q, header.k);
     if letters.len() < letter_count || entries.len() < entry_count {
-        return Err(Fault { stop: Stop::ShortStrip, place: 0 });
+        return Err(Fault {
+            stop: Stop::ShortStrip,
+            place: 0,
+        });
     }
     check_contents(head, &letters[0..letter_count], &entries[0..entry_count])?;
     Ok(head)
@@ -108,7 +129,9 @@ fn preset_len(head: Head, letters: &[u8], entries: &[Entry]) -> usize
 {
     let shape = head.shape();
     let numbers = header_numbers(head.header);
-    total_len::<u64>(shape, &numbers) + total_len::<u8>(shape, letters) + total_len::<Entry>(shape, entries)
+    total_len::<u64>(shape, &numbers)
+        + total_len::<u8>(shape, letters)
+        + total_len::<Entry>(shape, entries)
 }
 
 // Writes a preset to the front of the strip, where there is room, and answers how many bytes it took.
@@ -127,7 +150,12 @@ fn put_preset(head: Head, letters: &[u8], entries: &[Entry], out: &mut [u8]) -> 
 
 // Writes a preset to the front of the byte strip and answers how many bytes it takes. Of strips that are longer
 // than the header asks, the fronts are written.
-pub fn write_preset(header: Header, letters: &[u8], entries: &[Entry], out: &mut [u8]) -> Result<usize, Fault>
+pub fn write_preset(
+    header: Header,
+    letters: &[u8],
+    entries: &[Entry],
+    out: &mut [u8],
+) -> Result<usize, Fault>
     ensures answer { λ r. ⌜ plainly r ≡ written (writing header (now (letters .entry)) (now (entries .entry)) (now (out .entry))) ⌝ }
     ensures strip { λ _. ⌜ now (out .exit) ≡ strip-after (λ bytes. bytes) (now (out .entry)) (writing header (now (letters .entry)) (now (entries .entry)) (now (out .entry))) ⌝ }
     ensures reads_back { λ _. ⌜ Preset-reads-back ⌝ }
@@ -136,7 +164,10 @@ pub fn write_preset(header: Header, letters: &[u8], entries: &[Entry], out: &mut
     let letters = &letters[0..word_count(header.q, header.n)];
     let entries = &entries[0..word_count(header.q, header.k)];
     if out.len() < preset_len(head, letters, entries) {
-        return Err(Fault { stop: Stop::ShortStrip, place: 0 });
+        return Err(Fault {
+            stop: Stop::ShortStrip,
+            place: 0,
+        });
     }
     Ok(put_preset(head, letters, entries, out))
 }

@@ -27,9 +27,16 @@ struct Strips {
 
 fn new_strips(heap: Global) -> Result<Strips, AllocError> {
     let letters = vec![in heap; 0u8; STRIP]?;
-    let entries = vec![in heap; Entry { signed: 0, plain: 0 }; STRIP]?;
+    let entries = vec![in heap; Entry {
+        signed: 0,
+        plain: 0
+    }; STRIP]?;
     let bytes = vec![in heap; 0u8; 65536]?;
-    Ok(Strips { letters, entries, bytes })
+    Ok(Strips {
+        letters,
+        entries,
+        bytes,
+    })
 }
 
 fn digit(byte: u8) -> u8
@@ -75,7 +82,12 @@ fn write_fault<W: Write>(out: &mut W, fault: Fault) -> io::Result<()> {
 }
 
 // What the preset holds, and whether writing it gives the bytes that it was read from.
-fn write_contents<W: Write>(out: &mut W, header: Header, strips: &mut Strips, input: &[u8]) -> io::Result<()> {
+fn write_contents<W: Write>(
+    out: &mut W,
+    header: Header,
+    strips: &mut Strips,
+    input: &[u8],
+) -> io::Result<()> {
     let Header { kind, q, n, l, k } = header;
     write!(out, " {kind} {q} {n} {l} {k} ")?;
     let letters = header.letter_count().unwrap_or(0).min(strips.letters.len());

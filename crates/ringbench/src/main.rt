@@ -96,7 +96,11 @@ fn obey(rt: &LibcRuntime, words: &[String]) -> Result<(), Failed> {
             Ok(())
         }
         [verb, preset] if verb.as_str() == "show" => show(rt, preset.as_str()),
-        [verb, text, preset] if verb.as_str() == "encode" => encode(rt, text.as_str(), preset.as_str()),
+        [verb, text, preset] if verb.as_str() == "encode" => encode(
+            rt,
+            text.as_str(),
+            preset.as_str(),
+        ),
         _ => usage(rt),
     }
 }

@@ -36,11 +36,15 @@ pub impl Charge for Pitch as PitchCharge {
     }
 
     fn plus(self, other: Pitch) -> Pitch {
-        Pitch { class: class_sum(self.class, other.class) }
+        Pitch {
+            class: class_sum(self.class, other.class),
+        }
     }
 
     fn opposite(self) -> Pitch {
-        Pitch { class: class_opposite(self.class) }
+        Pitch {
+            class: class_opposite(self.class),
+        }
     }
 
     fn same(self, other: Pitch) -> bool {

@@ -19,8 +19,9 @@ loop-i-again c =
     let h = c .loop-i-test .taken in
     let inv = c .loop-i .inv in
     elim (c .if-byte-eq10 .came) [
-      then-byte-eq10 w ↦ (inv .0 ∙ (past-newline n bs i h (w .if-byte-eq10 .taken) ∙ ap (λ (m : ℕ). next-word m (drop (i + 1) bs)) (sym (w .passed-is))), omega (arith, inv .1, w .passed-is))
-    | else-byte-eq10·else-not-is-blank w ↦ (inv .0 ∙ (past-blank n bs i h (w .if-byte-eq10 .left) (sym (w .if-not-is-blank .ensures tt)) ∙ ap (λ (m : ℕ). next-word m (drop (i + 1) bs)) (sym (w .passed-is))), omega (arith, inv .1, w .passed-is)) ]
+      | then-byte-eq10 w ↦ (inv .0 ∙ (past-newline n bs i h (w .if-byte-eq10 .taken) ∙ ap (λ (m : ℕ). next-word m (drop (i + 1) bs)) (sym (w .passed-is))), omega (arith, inv .1, w .passed-is))
+      | else-byte-eq10·else-not-is-blank w ↦ (inv .0 ∙ (past-blank n bs i h (w .if-byte-eq10 .left) (sym (w .if-not-is-blank .ensures tt)) ∙ ap (λ (m : ℕ). next-word m (drop (i + 1) bs)) (sym (w .passed-is))), omega (arith, inv .1, w .passed-is))
+    ]
 
 pub returns-then-not-is-blank : need.returns-then-not-is-blank
 returns-then-not-is-blank c =
@@ -28,10 +29,12 @@ returns-then-not-is-blank c =
     let i = c .loop-i .i in
     record {
       place = sym (c .loop-i .inv .0 ∙ at-word (c .loop-i .passed) bs i (c .loop-i-test .taken) (c .if-byte-eq10 .left) (sym (c .if-not-is-blank .ensures tt)));
-      fits = omega (arith, c .loop-i .inv .1, ap length (take-rest bs i), length-drop i bs, c .pre) }
+      fits = omega (arith, c .loop-i .inv .1, ap length (take-rest bs i), length-drop i bs, c .pre);
+    }
 
 pub returns : need.returns
 returns c =
     record {
       place = sym (c .loop-i .inv .0 ∙ at-end (c .loop-i .passed) (c .args .place .text .now) (c .loop-i .i) (c .loop-i-test .left));
-      fits = omega (arith, c .loop-i .inv .1, c .loop-i .kept .i-end, c .pre) }
+      fits = omega (arith, c .loop-i .inv .1, c .loop-i .kept .i-end, c .pre);
+    }

@@ -31,4 +31,5 @@ returns c =
     let is = row-is (c .args .part) (at (c .args .place)) (at (c .next-word-start .result)) (c .next-word-start .ensures .place) (sym (c .if-is-empty .ensures tt)) (c .in-Some .name .front .now) (words (c .in-Some .name .rest .now)) has same in
     record {
       answer = rw (c .cut-parts .ensures .rest) (sym is);
-      fits = omega (arith, ap length (c .cut-parts .ensures .rest), length-drop (leading (belongs NotNewline) (c .next-word-start .result .text .now)) (c .next-word-start .result .text .now), c .next-word-start .ensures .fits) }
+      fits = omega (arith, ap length (c .cut-parts .ensures .rest), length-drop (leading (belongs NotNewline) (c .next-word-start .result .text .now)) (c .next-word-start .result .text .now), c .next-word-start .ensures .fits);
+    }

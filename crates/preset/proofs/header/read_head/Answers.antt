@@ -23,4 +23,5 @@ returns c =
     record {
       answer = head-done whole (c .args .input .now) (c .in-Continue-kind .rest .now) (c .in-Continue-q .rest .now) (c .in-Continue-n .rest .now) (c .in-Continue-l .rest .now) (c .in-Continue-k .rest .now) (c .in-Continue-kind .kind) (c .number .result) q n (c .in-Continue-l .l) k (c .in-Continue-kind .ensures tt .answer) (eq .answer) (en .answer) (c .in-Continue-l .ensures tt .answer) (ek .answer) few (c .number .ensures);
       rest = omega (arith, c .in-Continue-kind .ensures tt .rest, eq .rest, en .rest, c .in-Continue-l .ensures tt .rest, ek .rest);
-      lawful = record { alphabet = omega arith; window = omega arith; width = omega arith; letter-count = few-part q (n + k - 1) n (omega arith) (omega arith) few; entry-count = few-part q (n + k - 1) k (omega arith) (omega arith) few } }
+      lawful = record { alphabet = omega arith; window = omega arith; width = omega arith; letter-count = few-part q (n + k - 1) n (omega arith) (omega arith) few; entry-count = few-part q (n + k - 1) k (omega arith) (omega arith) few };
+    }

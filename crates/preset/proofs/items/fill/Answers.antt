@@ -15,11 +15,12 @@ loop-i-again g c =
     let r = c .read-there-item .result in
     let e = c .read-there-item .ensures in
     let k = c .loop-i .inv in
-    let all = many read (c .args .count) (c .args .input .now) in
-    (omega arith,
+    let all = many read (c .args .count) (c .args .input .now) in (
+      omega arith,
       ahead-more read (c .args .count) (c .loop-i .i) (c .loop-i .rest .now) (r .0) (r .1 .now) (c .loop-i .strip) all (c .loop-i-test .taken) (omega arith) (sym (e .answer)) (k .1),
       ok-more read (c .args .count) (c .loop-i .i) (c .loop-i .rest .now) (r .0) (r .1 .now) (c .loop-i-test .taken) (sym (e .answer)) (k .2),
-      past-more (c .loop-i .strip) (c .args .strip .now) (c .loop-i .i) (r .0) (k .3))
+      past-more (c .loop-i .strip) (c .args .strip .now) (c .loop-i .i) (r .0) (k .3),
+    )
 
 pub returns : need.returns
 returns g c =

@@ -22,9 +22,10 @@ pub loop-item-again : need.loop-item-again
 loop-item-again g c =
     let sends = g .T·Encode .bytes (c .args .shape) in
     let more = put-more sends (c .args .items .now) (c .loop-item .item-index) (c .item-item .result) (c .loop-item-test .taken) (c .item-item .is) (c .args .out .now) (c .args .at) (c .pre) in
-    let inv = c .loop-item .inv in
-    (omega (arith, length-sent-more sends (c .args .items .now) (c .loop-item .item-index) (c .item-item .result) (c .loop-item-test .taken) (c .item-item .is)),
-      c .put-next .ensures .strip ∙ (ap₂ (λ strip at. over strip at (sends (c .item-item .result))) (inv .1) (inv .0) ∙ more))
+    let inv = c .loop-item .inv in (
+      omega (arith, length-sent-more sends (c .args .items .now) (c .loop-item .item-index) (c .item-item .result) (c .loop-item-test .taken) (c .item-item .is)),
+      c .put-next .ensures .strip ∙ (ap₂ (λ strip at. over strip at (sends (c .item-item .result))) (inv .1) (inv .0) ∙ more),
+    )
 
 pub returns : need.returns
 returns g c =
@@ -32,4 +33,5 @@ returns g c =
     let t = take-all (c .loop-item .item-index) (c .args .items .now) (c .loop-item-test .left) in
     record {
       end = c .loop-item .inv .0 ∙ ap (λ xs. c .args .at + length (sent sends xs)) t;
-      strip = c .loop-item .inv .1 ∙ ap (λ xs. over (c .args .out .now) (c .args .at) (sent sends xs)) t }
+      strip = c .loop-item .inv .1 ∙ ap (λ xs. over (c .args .out .now) (c .args .at) (sent sends xs)) t;
+    }

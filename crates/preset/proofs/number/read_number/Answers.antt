@@ -28,7 +28,9 @@ returns-then-byte-lt128 c =
     let inv = c .loop-i .inv in
     record {
       answer = turn-last (c .args .input .now) (c .loop-i .rest .now) (c .loop-i .i) (c .loop-i .high) (inv .0) (inv .2) (inv .3) (omega (arith, ltb-false)) (c .args .place) (c .if-first .left) (c .loop-i-test .taken) (c .if-byte-lt128 .taken) (c .if-value-gt-MOST-NUMBER .left);
-      rest = tail-shorter (c .args .input .now) (c .loop-i .rest .now) (c .loop-i .i) (inv .0) (omega (arith, ltb-false)); refusals = refusals }
+      rest = tail-shorter (c .args .input .now) (c .loop-i .rest .now) (c .loop-i .i) (inv .0) (omega (arith, ltb-false));
+      refusals = refusals;
+    }
 
 pub loop-i-again : need.loop-i-again
 loop-i-again c =

@@ -14,6 +14,10 @@ returns c =
     record {
       answer = sym (sizes-pass h (omega arith) (omega arith) (omega arith) (omega arith) (omega arith) (omega arith) (omega arith) few);
       lawful = record {
-        alphabet = omega arith; window = omega arith; width = omega arith;
+        alphabet = omega arith;
+        window = omega arith;
+        width = omega arith;
         letter-count = few-part (h .q) (h .n + h .k - 1) (h .n) (omega arith) (omega arith) few;
-        entry-count = few-part (h .q) (h .n + h .k - 1) (h .k) (omega arith) (omega arith) few } }
+        entry-count = few-part (h .q) (h .n + h .k - 1) (h .k) (omega arith) (omega arith) few;
+      };
+    }

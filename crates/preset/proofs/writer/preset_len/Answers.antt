@@ -15,7 +15,9 @@ pub returns : need.returns
 returns c =
     let h = c .args .head in
     let entries = c .args .entries .now in
-    omega (arith,
+    omega (
+      arith,
       length-three {X = ℕ} [] (sent spell (header-numbers (h .header))) (sent spell (c .args .letters .now)) (sent (entry-bytes (h .kind)) entries),
       ap (λ (xs : List ℕ). length (sent spell xs)) (c .header-numbers-numbers .ensures),
-      ap (λ (k : ChargeKind). length (sent (entry-bytes k) entries)) (c .shape-shape .ensures .0))
+      ap (λ (k : ChargeKind). length (sent (entry-bytes k) entries)) (c .shape-shape .ensures .0),
+    )

@@ -47,8 +47,9 @@ returns c =
     record {
       end = omega (arith, parts h letters entries, numbers, kinds);
       strip = over-three out (sent spell (header-numbers (h .header))) (sent spell letters) (sent (entry-bytes (h .kind)) entries)
-        (c .put-all-after-header .last .out) (c .put-all-after-letters .last .out) (c .put-all .last .out) (c .put-all-after-header .result) (c .put-all-after-letters .result)
-        (omega (arith, numbers)) (c .put-all-after-letters .ensures .end)
-        (c .put-all-after-header .ensures .strip ∙ ap (λ (xs : List ℕ). over out 0 (sent spell xs)) (c .header-numbers-numbers .ensures))
-        (c .put-all-after-letters .ensures .strip)
-        (c .put-all .ensures .strip ∙ ap (λ (i : ChargeKind). over (c .put-all-after-letters .last .out) (c .put-all-after-letters .result) (sent (entry-bytes i) entries)) (c .shape-shape .ensures .0)) }
+          (c .put-all-after-header .last .out) (c .put-all-after-letters .last .out) (c .put-all .last .out) (c .put-all-after-header .result) (c .put-all-after-letters .result)
+          (omega (arith, numbers)) (c .put-all-after-letters .ensures .end)
+          (c .put-all-after-header .ensures .strip ∙ ap (λ (xs : List ℕ). over out 0 (sent spell xs)) (c .header-numbers-numbers .ensures))
+          (c .put-all-after-letters .ensures .strip)
+          (c .put-all .ensures .strip ∙ ap (λ (i : ChargeKind). over (c .put-all-after-letters .last .out) (c .put-all-after-letters .result) (sent (entry-bytes i) entries)) (c .shape-shape .ensures .0));
+    }

@@ -23,4 +23,6 @@ returns c =
     let e = write-done (c .args .header) (c .args .letters .now) (c .args .entries .now) (c .in-Continue-head .head) (c .in-Continue-head .ensures tt) (c .word-count .result) (c .word-count-2 .result) (c .word-count .ensures) (c .word-count-2 .ensures) (c .args .out .now) (omega arith) in
     record {
       answer = ap (λ (n : ℕ). Ok n) (c .put-preset .ensures .end) ∙ sym (ap written e);
-      strip = c .put-preset .ensures .strip ∙ sym (ap (strip-after (λ (bytes : List ℕ). bytes) (c .args .out .now)) e); reads-back = preset-reads-back }
+      strip = c .put-preset .ensures .strip ∙ sym (ap (strip-after (λ (bytes : List ℕ). bytes) (c .args .out .now)) e);
+      reads-back = preset-reads-back;
+    }

@@ -34,4 +34,5 @@ returns c =
     let first : c .put-part-next .last .out ≡ over (c .args .out .now) (c .args .at) (part-bytes s) = c .put-part-next .ensures .strip ∙ ap (λ (q : Option ℕ). over (c .args .out .now) (c .args .at) (part-bytes q)) es in
     record {
       end = omega (arith, length-append (part-bytes s) (part-bytes p), ap size es, ap size ep);
-      strip = c .put-part .ensures .strip ∙ (ap (λ (q : Option ℕ). over (c .put-part-next .last .out) (c .put-part-next .result) (part-bytes q)) ep ∙ (ap₂ (λ (xs : List ℕ) (at : ℕ). over xs at (part-bytes p)) first n ∙ o)) }
+      strip = c .put-part .ensures .strip ∙ (ap (λ (q : Option ℕ). over (c .put-part-next .last .out) (c .put-part-next .result) (part-bytes q)) ep ∙ (ap₂ (λ (xs : List ℕ) (at : ℕ). over xs at (part-bytes p)) first n ∙ o));
+    }
