@@ -2,8 +2,9 @@
 ghost use mathlib.Core.Path.{_≡_};
 ghost use lib.ListN.{length};
 ghost use Rattle.std.specs.Of.Vec.{vec-items};
+ghost use Rattle.std.specs.declared.option.Option.the-variants.{Some};
 ghost use Rattle.std.specs.declared.result.Result.the-variants.{Ok};
-ghost use Rattle.console.specs.Encodes.{answered, Answered, count-test, counts-tested, bytes-of, encoded, most-preset};
+ghost use Rattle.console.specs.Encodes.{answered, Answered, miscounted, counts-tested, bytes-of, encoded, most-preset, encode-sentence};
 ghost use Rattle.console.specs.Grammar.{content};
 use crate::draft::Draft;
 use crate::error::TextError;
@@ -29,27 +30,23 @@ use std::fmt;
 // No preset takes more bytes than this.
 const MOST_PRESET: usize = 32768;
 
-// Why a page gives no preset: the text is no page, a line has another count of items than the header asks, or
-// the writer refuses what the page holds.
+// Why a page gives no preset: the text is no page, the line of the rule or of the density has another count of
+// items than the header asks, or the writer refuses what the page holds.
 #[derive(Clone, Copy, PartialEq, Eq, Debug)]
 pub enum EncodeError {
     Text(TextError),
-    Count { line: usize, count: usize },
+    Letters { line: usize, count: usize },
+    Entries { line: usize, count: usize },
     Refused { lines: Lines, fault: Fault },
 }
 
-fn check_count(line: usize, count: Option<usize>, have: usize) -> Result<(), EncodeError>
-    ensures { λ r. ⌜ answered (λ x. x) r ≡ count-test line count have ⌝ }
+// The count that is asked for, if one is asked for and there are not so many.
+fn miscount(count: Option<usize>, have: usize) -> Option<usize>
+    ensures { λ r. ⌜ r ≡ miscounted count have ⌝ }
 {
     match count {
-        None => Ok(()),
-        Some(count) => {
-            if count == have {
-                Ok(())
-            } else {
-                Err(EncodeError::Count { line, count })
-            }
-        }
+        Some(count) if count != have => Some(count),
+        _ => None,
     }
 }
 
@@ -57,13 +54,18 @@ fn check_count(line: usize, count: Option<usize>, have: usize) -> Result<(), Enc
 fn check_counts(draft: &Draft) -> Result<(), EncodeError>
     ensures { λ r. ⌜ answered (λ x. x) r ≡ counts-tested (content (now (draft .entry))) ⌝ }
 {
-    let header = draft.header;
-    check_count(draft.lines.rule, header.letter_count(), draft.letters.len())?;
-    check_count(
-        draft.lines.density,
-        header.entry_count(),
-        draft.entries.len(),
-    )?;
+    if let Some(count) = miscount(draft.header.letter_count(), draft.letters.len()) {
+        return Err(EncodeError::Letters {
+            line: draft.lines.rule,
+            count,
+        });
+    }
+    if let Some(count) = miscount(draft.header.entry_count(), draft.entries.len()) {
+        return Err(EncodeError::Entries {
+            line: draft.lines.density,
+            count,
+        });
+    }
     Ok(())
 }
 
@@ -110,10 +112,19 @@ pub fn encode_page(heap: Global, text: &[u8]) -> Result<Vec<u8>, EncodeError>
 }
 
 pub impl fmt::Display for EncodeError as EncodeErrorDisplay {
+    ghost shown = { λ e. Some (encode-sentence e) };
+
     fn fmt<W: fmt::Write>(&self, f: &mut fmt::Formatter<W>) -> fmt::Result {
         match self {
             EncodeError::Text(error) => write!(f, "{error}"),
-            EncodeError::Count { line, count } => write!(f, "Line {line}: expected {count} items."),
+            EncodeError::Letters { line, count } => write!(
+                f,
+                "Line {line}: expected {count} letters."
+            ),
+            EncodeError::Entries { line, count } => write!(
+                f,
+                "Line {line}: expected {count} entries."
+            ),
             EncodeError::Refused { lines, fault } => match line_of_refusal(*lines, fault.stop) {
                 Some(line) => {
                     let reason = fault.stop.reason();

@@ -345,8 +345,9 @@ one-spelling bs cs p u v e f =
     let b = preset-writes-back cs p [] v (whole-is cs p f) in
     a .1 ∙ sym (b .1)
 
-counted-some : (most q m count : ℕ) → m ≤ most → q ^ m ≤ most-words → count ≡ q ^ m → counted most q m ≡ Some count
-counted-some most q m count h few e = rw (le-leb m most h, le-leb (q ^ m) most-words few, e)
+counted-some : (most q m count : ℕ) → 2 ≤ q → q < 9 → 1 ≤ m → m < suc most → q ^ m ≤ most-words → count ≡ q ^ m → counted most q m ≡ Some count
+counted-some most q m count q₁ q₂ m₁ m₂ few e =
+    rw (le-leb 2 q q₁, lt-ltb q 9 q₂, le-leb 1 m m₁, lt-ltb m (suc most) m₂, le-leb (q ^ m) most-words few, e)
 
 pub preset-sizes : Preset-sizes
 preset-sizes bs p u e =
@@ -354,6 +355,6 @@ preset-sizes bs p u e =
     let h = p .head .header in
     let s = g .sized in (
       ap kindOf (sym (g .named)) ∙ number-kind (p .head .kind),
-      counted-some most-window (h .q) (h .n) (length (p .letters)) (omega (arith, s .n₂)) (few-part (h .q) (h .n + h .k - 1) (h .n) (omega (arith, s .q₁)) (omega (arith, s .k₁)) (s .few)) (g .letter-count),
-      counted-some most-width (h .q) (h .k) (length (p .entries)) (omega (arith, s .k₂)) (few-part (h .q) (h .n + h .k - 1) (h .k) (omega (arith, s .q₁)) (omega (arith, s .n₁)) (s .few)) (g .entry-count),
+      counted-some most-window (h .q) (h .n) (length (p .letters)) (s .q₁) (s .q₂) (s .n₁) (s .n₂) (few-part (h .q) (h .n + h .k - 1) (h .n) (omega (arith, s .q₁)) (omega (arith, s .k₁)) (s .few)) (g .letter-count),
+      counted-some most-width (h .q) (h .k) (length (p .entries)) (s .q₁) (s .q₂) (s .k₁) (s .k₂) (few-part (h .q) (h .n + h .k - 1) (h .k) (omega (arith, s .q₁)) (omega (arith, s .n₁)) (s .few)) (g .entry-count),
     )

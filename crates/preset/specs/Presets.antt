@@ -30,9 +30,10 @@ use Rattle.preset.specs.Numbers.{number, spell}
 abbrev pub few-words : ℕ → ℕ → Bool
 few-words q m = leb (q ^ m) most-words
 
--- how many words of m letters there are, where m is in range and they are few
+-- how many words of m letters there are, where the alphabet size and m are in range and the words are few
 abbrev pub counted : ℕ → ℕ → ℕ → Option ℕ
-counted most q m = cond (leb m most && few-words q m) (Some (q ^ m)) None
+counted most q m =
+    cond (within least-letters (suc most-letters) q && (within 1 (suc most) m && few-words q m)) (Some (q ^ m)) None
 
 -- what a preset holds: its header with the kind that it names, the rule's letters and the density's entries
 pub record Preset : Type 0 where

@@ -31,14 +31,14 @@ pub struct Header {
 }
 
 impl Header {
-    // How many letters the rule has, where the window is in range and the words are few.
+    // How many letters the rule has, where the alphabet size and the window are in range and the words are few.
     pub fn letter_count(self) -> Option<usize>
         ensures { λ r. ⌜ r ≡ counted most-window (self .q) (self .n) ⌝ }
     {
         counted_words(MOST_WINDOW, self.q, self.n)
     }
 
-    // How many entries the density has, where the width is in range and the words are few.
+    // How many entries the density has, where the alphabet size and the width are in range and the words are few.
     pub fn entry_count(self) -> Option<usize>
         ensures { λ r. ⌜ r ≡ counted most-width (self .q) (self .k) ⌝ }
     {
@@ -86,12 +86,15 @@ pub(crate) fn word_count(q: u64, m: u64) -> usize
     q.pow(m as u32) as usize
 }
 
-// The same where m letters may be too many.
+// The same where the alphabet size or m may be out of range, or the words too many.
 fn counted_words(most: u64, q: u64, m: u64) -> Option<usize>
     requires { ⌜ most < 2 ^ 32 ⌝ }
     ensures { λ r. ⌜ r ≡ counted most q m ⌝ }
 {
-    if m > most || !few_words(q, m) {
+    if q < LEAST_LETTERS || q > MOST_LETTERS {
+        return None;
+    }
+    if m < 1 || m > most || !few_words(q, m) {
         return None;
     }
     Some(word_count(q, m))
