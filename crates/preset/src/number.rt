@@ -1,6 +1,7 @@
 // Numbers: groups of seven bits, the highest first, each but the last in a byte with its top bit set.
 ghost use mathlib.Core.Path.{_≡_};
 ghost use Prim.Native.Nat.{_+_, _<_, _≤_};
+ghost use lib.Dec.{ltb};
 ghost use lib.ListN.{length};
 ghost use Rattle.std.specs.Vec.{made};
 ghost use Rattle.preset.specs.Answers.{seen, plainly, over};
@@ -15,6 +16,13 @@ pub const MOST_NUMBER: u64 = 0xffff_ffff;
 
 // A number takes at most this many bytes.
 const MOST_BYTES: usize = 5;
+
+// Whether a byte is the last of its number: its top bit is clear.
+fn ends_number(byte: u8) -> bool
+    ensures { λ r. ⌜ r ≡ ltb byte 128 ⌝ }
+{
+    byte < 0x80
+}
 
 // The number at the front of the input, and the bytes after it. The input stands at a place of a larger one.
 pub fn read_number(input: &[u8], place: usize) -> Result<(u64, &[u8]), Fault>
@@ -44,7 +52,7 @@ pub fn read_number(input: &[u8], place: usize) -> Result<(u64, &[u8]), Fault>
             });
         };
         let value = high * 128 + (*byte % 128) as u64;
-        if *byte < 0x80 {
+        if ends_number(*byte) {
             if value > MOST_NUMBER {
                 return Err(Fault {
                     stop: Stop::Misspelt,
@@ -113,12 +121,10 @@ pub(crate) impl Encode for u64 as NumberEncode {
     }
 }
 
-// Writes a number from `at` on and answers the index after it. A value over the limit has no spelling.
-pub fn write_number(value: u64, out: &mut [u8], at: usize) -> Result<usize, Fault>
+// Writes a number from `at` on, or refuses it and writes nothing.
+fn write_at(value: u64, out: &mut [u8], at: usize) -> Result<usize, Fault>
     ensures answer { λ r. ⌜ plainly r ≡ number-end (now (out .entry)) at value ⌝ }
     ensures strip { λ _. ⌜ now (out .exit) ≡ spelt-over (now (out .entry)) at (spelling (now (out .entry)) at value) ⌝ }
-    ensures reads_back { λ _. ⌜ Number-reads-back ⌝ }
-    ensures spells_back { λ _. ⌜ Number-spells-back ⌝ }
 {
     if value > MOST_NUMBER {
         return Err(Fault {
@@ -133,4 +139,14 @@ pub fn write_number(value: u64, out: &mut [u8], at: usize) -> Result<usize, Faul
         });
     }
     Ok(put_number(value, out, at))
+}
+
+// Writes a number from `at` on and answers the index after it. A value over the limit has no spelling.
+pub fn write_number(value: u64, out: &mut [u8], at: usize) -> Result<usize, Fault>
+    ensures answer { λ r. ⌜ plainly r ≡ number-end (now (out .entry)) at value ⌝ }
+    ensures strip { λ _. ⌜ now (out .exit) ≡ spelt-over (now (out .entry)) at (spelling (now (out .entry)) at value) ⌝ }
+    ensures reads_back { λ _. ⌜ Number-reads-back ⌝ }
+    ensures spells_back { λ _. ⌜ Number-spells-back ⌝ }
+{
+    write_at(value, out, at)
 }

@@ -1,11 +1,12 @@
 // Presets read from bytes into lent strips.
 ghost use mathlib.Core.Path.{_≡_};
-ghost use Prim.Native.Nat.{_≤_};
+ghost use Prim.Native.Nat.{_-_, _≤_};
 ghost use lib.ListN.{length};
 ghost use Rattle.std.specs.Results.{Cases};
 ghost use Rattle.std.specs.declared.result.Result.the-variants.{Err};
 ghost use Rattle.fault.specs.Limits.{most-words};
-ghost use Rattle.fault.specs.Refusals.{refusal};
+ghost use Rattle.fault.specs.Refusals.{refusal, refused-at};
+ghost use Rattle.fault.specs.declared.Stop.the-variants.{SurplusBytes};
 ghost use Rattle.preset.specs.Answers.{seen, plainly};
 ghost use Rattle.preset.specs.Laws.{Preset-writes-back, One-spelling, Preset-sizes};
 ghost use Rattle.preset.specs.Presets.{preset as preset-at, with-room, reading, whole-reading, header-of, header-and-rest, strip-after};
@@ -112,6 +113,17 @@ pub fn read_preset<'a>(
     Ok((header, rest))
 }
 
+// The refusal of the bytes that follow a preset in an input of `whole` bytes.
+fn surplus(whole: usize, rest: &[u8]) -> Fault
+    requires { ⌜ length (now rest) ≤ whole ⌝ }
+    ensures { λ r. ⌜ refusal r ≡ refused-at SurplusBytes (whole - length (now (rest .entry))) ⌝ }
+{
+    Fault {
+        stop: Stop::SurplusBytes,
+        place: whole - rest.len(),
+    }
+}
+
 // The same where the input is one preset and no more.
 pub fn read_whole(input: &[u8], letters: &mut [u8], entries: &mut [Entry]) -> Result<Header, Fault>
     ensures answer { λ r. ⌜ plainly r ≡ header-of (whole-reading (now (letters .entry)) (now (entries .entry)) (now (input .entry))) ⌝ }
@@ -122,10 +134,7 @@ pub fn read_whole(input: &[u8], letters: &mut [u8], entries: &mut [Entry]) -> Re
 {
     let scan = find_parts_for(input, letters.len(), entries.len())?;
     if !scan.rest.is_empty() {
-        return Err(Fault {
-            stop: Stop::SurplusBytes,
-            place: input.len() - scan.rest.len(),
-        });
+        return Err(surplus(input.len(), scan.rest));
     }
     let header = scan.head.header;
     fill_strips(input, scan, letters, entries);

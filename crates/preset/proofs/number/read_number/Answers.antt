@@ -1,4 +1,5 @@
 use mathlib.Core.Path.{sym, ap}
+use lib.ListN.{getD}
 use native.Mathlib.Omega.{arith}
 use borrow.Author.Tests.{ltb-true, ltb-false}
 use Rattle.std.proofs.shelf.Lists.{nil-from-length}
@@ -21,13 +22,13 @@ returns-in-rest-rest c =
 pub returns-then-value-gt-MOST-NUMBER : need.returns-then-value-gt-MOST-NUMBER
 returns-then-value-gt-MOST-NUMBER c =
     let inv = c .loop-i .inv in
-    record { answer = turn-large (c .args .input .now) (c .loop-i .rest .now) (c .loop-i .i) (c .loop-i .high) (inv .0) (inv .2) (inv .3) (omega (arith, ltb-false)) (c .args .place) (c .if-byte-lt128 .taken) (c .if-value-gt-MOST-NUMBER .taken); rest = tt; refusals = refusals }
+    record { answer = turn-large (c .args .input .now) (c .loop-i .rest .now) (c .loop-i .i) (c .loop-i .high) (inv .0) (inv .2) (inv .3) (omega (arith, ltb-false)) (c .args .place) (ltb-true (getD (c .loop-i .rest .now) 0 0) 128 (sym (c .if-ends-number .ensures tt))) (c .if-value-gt-MOST-NUMBER .taken); rest = tt; refusals = refusals }
 
-pub returns-then-byte-lt128 : need.returns-then-byte-lt128
-returns-then-byte-lt128 c =
+pub returns-then-ends-number : need.returns-then-ends-number
+returns-then-ends-number c =
     let inv = c .loop-i .inv in
     record {
-      answer = turn-last (c .args .input .now) (c .loop-i .rest .now) (c .loop-i .i) (c .loop-i .high) (inv .0) (inv .2) (inv .3) (omega (arith, ltb-false)) (c .args .place) (c .if-first .left) (c .loop-i-test .taken) (c .if-byte-lt128 .taken) (c .if-value-gt-MOST-NUMBER .left);
+      answer = turn-last (c .args .input .now) (c .loop-i .rest .now) (c .loop-i .i) (c .loop-i .high) (inv .0) (inv .2) (inv .3) (omega (arith, ltb-false)) (c .args .place) (c .if-first .left) (c .loop-i-test .taken) (ltb-true (getD (c .loop-i .rest .now) 0 0) 128 (sym (c .if-ends-number .ensures tt))) (c .if-value-gt-MOST-NUMBER .left);
       rest = tail-shorter (c .args .input .now) (c .loop-i .rest .now) (c .loop-i .i) (inv .0) (omega (arith, ltb-false));
       refusals = refusals;
     }
@@ -35,7 +36,7 @@ returns-then-byte-lt128 c =
 pub loop-i-again : need.loop-i-again
 loop-i-again c =
     let inv = c .loop-i .inv in
-    turn-more (c .args .input .now) (c .loop-i .rest .now) (c .loop-i .i) (c .loop-i .high) (inv .0) (inv .2) (inv .3) (omega (arith, ltb-false)) (inv .4) (c .if-byte-lt128 .left)
+    turn-more (c .args .input .now) (c .loop-i .rest .now) (c .loop-i .i) (c .loop-i .high) (inv .0) (inv .2) (inv .3) (omega (arith, ltb-false)) (inv .4) (ltb-false (getD (c .loop-i .rest .now) 0 0) 128 (sym (c .if-ends-number .ensures tt)))
 
 pub returns : need.returns
 returns c = record { answer = sym (number-long (c .args .place) (c .args .input .now) (omega arith)); rest = tt; refusals = refusals }

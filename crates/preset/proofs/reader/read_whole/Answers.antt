@@ -3,6 +3,8 @@ use lib.ListN.{length}
 use borrow.Author.Needs.{needs}
 use borrow.Author.Tests.{eqb-true, eqb-false}
 use native.Mathlib.Omega.{arith}
+use Rattle.std.specs.declared.result.Result.the-variants.{Err}
+use Rattle.fault.specs.Refusals.{Refusal}
 use Rattle.preset.specs.Presets.{header-of, strip-after}
 use Rattle.preset.proofs.PresetLaws.{one-spelling, preset-sizes}
 use Rattle.preset.proofs.Scanning.{whole-surplus, whole-done}
@@ -15,7 +17,7 @@ pub returns-then-not-is-empty : need.returns-then-not-is-empty
 returns-then-not-is-empty c =
     let found = c .in-Continue-scan .ensures tt in
     let e = whole-surplus (c .args .input .now) (c .in-Continue-scan .scan) (found .0) (c .args .letters .now) (c .args .entries .now) (found .1) (found .2) (omega (arith, eqb-false (length (c .in-Continue-scan .scan .rest .now)) 0 (sym (c .if-not-is-empty .ensures tt)))) in
-    record { answer = sym (ap header-of e); letters = sym (ap (strip-after (λ p. p .letters) (c .args .letters .now)) e); entries = sym (ap (strip-after (λ p. p .entries) (c .args .entries .now)) e); one-spelling = one-spelling; sizes = preset-sizes }
+    record { answer = ap (λ (f : Refusal). Err f) (c .surplus .ensures) ∙ sym (ap header-of e); letters = sym (ap (strip-after (λ p. p .letters) (c .args .letters .now)) e); entries = sym (ap (strip-after (λ p. p .entries) (c .args .entries .now)) e); one-spelling = one-spelling; sizes = preset-sizes }
 
 pub returns : need.returns
 returns c =
