@@ -1,6 +1,6 @@
 -- What the charges of each delivered kind mean. Assumes nothing.
-use mathlib.Core.Path.{_≡_, refl}
-use mathlib.Core.Bool.{Bool, true, _&&_}
+use mathlib.Core.Path.{refl}
+use mathlib.Core.Bool.{true, _&&_}
 use Prim.Native.Nat.{ℕ, _%_, _^_}
 use lib.Dec.{lit<}
 use lib.IntN.{ℤ, pos, natAbs}

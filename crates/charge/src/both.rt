@@ -1,5 +1,4 @@
 // Charges of kind both: a voices charge and a pitch charge.
-ghost use mathlib.Core.Path.{_≡_};
 ghost use Rattle.charge.specs.Kinds.{both};
 use crate::Charge;
 use crate::pitch::Pitch;

@@ -1,7 +1,6 @@
 -- What a page is encoded to. Assumes nothing.
-use Prim.Native.Nat.{ℕ, _-_, _≤_}
+use Prim.Native.Nat.{ℕ, _-_}
 use mathlib.Core.Path.{_≡_, refl, sym, ap, _∙_}
-use mathlib.Core.Bool.{Bool, true, false, cond}
 use mathlib.Core.List.{List}
 use lib.ListN.{length, take, drop}
 use native.Mathlib.Omega.{arith}
@@ -10,11 +9,10 @@ use Rattle.std.specs.declared.result.Result.{Result}
 use Rattle.std.specs.declared.result.Result.the-variants.{Ok, Err}
 use Rattle.fault.specs.Refusals.{Refusal}
 use Rattle.preset.specs.Answers.{andThen, front}
-use Rattle.preset.specs.Presets.{Preset, strip-after}
+use Rattle.preset.specs.Presets.{strip-after}
 use Rattle.preset.specs.Writes.{checked, preset-bytes, fitting, writing, written}
-use Rattle.console.specs.Encodes.{Encoding, Answered, then, from-writer, counts-tested, bytes-of, refused, text, most-preset}
+use Rattle.console.specs.Encodes.{Encoding, from-writer, counts-tested, bytes-of, refused, most-preset}
 use Rattle.console.specs.Grammar.{Content}
-use Rattle.console.specs.declared.error.TextError.the-variants.{Memory}
 
 -- the writer's answer, over a strip that every preset fits
 writer-of : Content → Result (List ℕ) Refusal

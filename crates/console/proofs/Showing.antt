@@ -18,7 +18,7 @@ use Rattle.preset.specs.declared.entry.Entry.{Entry}
 use Rattle.preset.specs.declared.header.Header.{Header}
 use Rattle.preset.specs.Answers.{andThen, front}
 use Rattle.preset.specs.Laws.{Bytes, Preset-sizes}
-use Rattle.preset.specs.Presets.{Preset, counted, whole-preset, whole-reading, header-of, strip-after}
+use Rattle.preset.specs.Presets.{counted, whole-preset, whole-reading, header-of, strip-after}
 use Rattle.console.specs.Pages.{page-text}
 use Rattle.console.specs.Shows.{shown, Held}
 

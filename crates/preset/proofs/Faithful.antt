@@ -1,18 +1,17 @@
 -- Reading and sending letters and entries undo one another. Assumes nothing.
 use Prim.Native.Nat.{ℕ, zero, suc, _+_, _-_, _*_, _/_, _%_, _^_, _≤_, _<_}
-use mathlib.Core.Path.{_≡_, refl, sym, ap, subst, _∙_}
+use mathlib.Core.Path.{_≡_, refl, sym, ap, _∙_}
 use mathlib.Core.Bool.{Bool, true, false, cond, _&&_}
 use mathlib.Core.Logic.{inl, inr}
-use mathlib.Core.List.{List, [], _∷_, _++_, append-assoc, append-nil}
+use mathlib.Core.List.{List, [], _∷_, _++_, append-assoc}
 use lib.Dec.{ltb, leb, eqb, lit≤}
 use lib.IntN.{ℤ, pos, negsuc}
-use lib.ListN.{length, take, drop}
+use lib.ListN.{length, drop}
 use borrow.Author.Tests.{le-leb, lt-ltb, leb-true, ltb-true, eqb-true, eqb-false}
 use native.Mathlib.Omega.{arith}
 use Rattle.std.proofs.shelf.Elements.{all-drop}
-use Rattle.std.proofs.shelf.Lists.{drop-at, take-all, length-take-le}
+use Rattle.std.proofs.shelf.Lists.{drop-at}
 use Rattle.std.proofs.shelf.Tests.{and-parts, and-from, cases-bool}
-use Rattle.std.proofs.shelf.Ways.{tells}
 use Rattle.std.specs.declared.option.Option.{Option}
 use Rattle.std.specs.declared.option.Option.the-variants.{None, Some}
 use Rattle.std.specs.declared.result.Result.{Result}
@@ -20,18 +19,15 @@ use Rattle.std.specs.declared.result.Result.the-variants.{Ok, Err}
 use Rattle.std.specs.shelf.Lists.{All}
 use Rattle.fault.specs.declared.Stop.{Stop}
 use Rattle.fault.specs.declared.Stop.the-variants.{BadEntry}
-use Rattle.fault.specs.Refusals.{Refusal, refused-at}
+use Rattle.fault.specs.Refusals.{Refusal}
 use Rattle.charge.specs.declared.kind.ChargeKind.{ChargeKind}
 use Rattle.charge.specs.declared.kind.ChargeKind.the-variants.{Voices, Pitch, Channels, Both}
-use Rattle.charge.specs.Numbers.{numberOf, kindOf}
 use Rattle.charge.specs.Ranges.{voices-range}
 use Rattle.preset.specs.declared.entry.Entry.{Entry}
-use Rattle.preset.specs.declared.header.Head.{Head}
-use Rattle.preset.specs.declared.header.Header.{Header}
 use Rattle.preset.specs.Answers.{Answer, andThen, many}
-use Rattle.preset.specs.Entries.{letter, zig, zag, signed-part, plain-end, signed-fits, plain-fits, fits, signed-read, plain-read, entry, signed-number, plain-number, part-bytes, entry-bytes}
+use Rattle.preset.specs.Entries.{zig, zag, signed-part, plain-end, signed-fits, plain-fits, fits, signed-read, plain-read, entry, signed-number, plain-number, part-bytes, entry-bytes}
 use Rattle.preset.specs.Fields.{field}
-use Rattle.preset.specs.Items.{sent, each-fits}
+use Rattle.preset.specs.Items.{sent}
 use Rattle.preset.specs.Laws.{Bytes}
 use Rattle.preset.specs.Numbers.{number, number-limit, spell}
 use Rattle.preset.proofs.NumberLaws.{reads-back, spells-back}

@@ -1,10 +1,10 @@
 -- Reading and spelling a number undo one another, and which bytes are refused. Assumes nothing.
-use Prim.Native.Nat.{ℕ, zero, suc, _+_, _-_, _*_, _/_, _%_, _^_, _≤_, _<_}
+use Prim.Native.Nat.{ℕ, zero, suc, _+_, _*_, _/_, _%_, _^_, _≤_, _<_}
 use mathlib.Core.Path.{_≡_, refl, sym, ap, _∙_}
-use mathlib.Core.Bool.{Bool, true, false, cond, _&&_, _||_}
-use mathlib.Core.Logic.{_⊎_, inl, inr}
+use mathlib.Core.Bool.{true, false}
+use mathlib.Core.Logic.{inl, inr}
 use mathlib.Core.List.{List, [], _∷_, _++_, map, append-assoc, append-nil}
-use lib.Dec.{ltb, leb, eqb}
+use lib.Dec.{leb, eqb}
 use lib.ListN.{length, getD, take, drop, length-append}
 use borrow.Author.Tests.{le-ltb, lt-ltb, ltb-true, ltb-false, leb-true, leb-false, eqb-true, eqb-false}
 use native.Mathlib.Omega.{arith}
@@ -12,7 +12,7 @@ use native.Mathlib.Nat.{div-add-mod'}
 use Rattle.std.proofs.shelf.Bits.{div-below, mod-below, div-mul-add, mod-mul-add}
 use Rattle.std.proofs.shelf.Digits.{digitsOf-step, length-digitsOf-le, under-digitsOf, first-digitsOf, number-digitsOf, number-push}
 use Rattle.std.proofs.shelf.Elements.{all-take}
-use Rattle.std.proofs.shelf.Lists.{length-map, length-push, map-push, take-at, drop-at, take-all, take-take, take-more, take-append-drop, length-take-le, nil-from-length, drop-more}
+use Rattle.std.proofs.shelf.Lists.{length-map, length-push, map-push, take-at, drop-at, take-all, take-take, take-more, take-append-drop, length-take-le, drop-more}
 use Rattle.std.proofs.shelf.Tests.{cases-bool, or-cases, or-parts, and-parts}
 use Rattle.std.proofs.shelf.Ways.{tells, leb-tells}
 use Rattle.std.specs.declared.result.Result.the-variants.{Ok, Err}
@@ -21,7 +21,7 @@ use Rattle.std.specs.shelf.Lists.{All}
 use Rattle.fault.specs.declared.Stop.the-variants.{CutShort, Misspelt}
 use Rattle.fault.specs.Refusals.{refused-at}
 use Rattle.preset.specs.Answers.{Answer}
-use Rattle.preset.specs.Numbers.{number-limit, most-bytes, spell, high-bytes, tops, value, finished, first, misspelt, number, Cut-short, Misspelling, leading, long, large, Number-refusals, Number-reads-back, Number-spells-back}
+use Rattle.preset.specs.Numbers.{number-limit, most-bytes, spell, tops, value, finished, first, misspelt, number, Cut-short, Misspelling, leading, long, large, Number-refusals, Number-reads-back, Number-spells-back}
 use Rattle.preset.proofs.Reading.{number-leading, number-long, number-large, number-cut, number-is}
 
 -- a byte with its top bit set

@@ -1,12 +1,11 @@
 -- Reading and writing a preset undo one another. Assumes nothing.
 use Prim.Native.Nat.{ℕ, suc, _+_, _-_, _^_, _≤_, _<_}
 use mathlib.Core.Path.{_≡_, refl, sym, ap, ap₂, subst, _∙_}
-use mathlib.Core.Bool.{Bool, true, false, cond, _&&_}
-use mathlib.Core.Logic.{inl, inr}
-use mathlib.Core.List.{List, [], _∷_, _++_, append-assoc, append-nil}
-use lib.Dec.{ltb, leb, eqb}
-use lib.ListN.{length, take}
-use borrow.Author.Tests.{le-leb, lt-ltb, leb-true, ltb-true, eqb-true, eq-eqb}
+use mathlib.Core.Bool.{Bool, true, false, cond}
+use mathlib.Core.List.{List, [], _∷_, _++_, append-assoc}
+use lib.Dec.{ltb, leb}
+use lib.ListN.{length}
+use borrow.Author.Tests.{le-leb, lt-ltb, leb-true, ltb-true}
 use native.Mathlib.Omega.{arith}
 use Rattle.std.proofs.shelf.Lists.{take-all, length-take-le}
 use Rattle.std.proofs.shelf.Tests.{and-parts}
@@ -27,7 +26,7 @@ use Rattle.charge.specs.Numbers.{numberOf, kindOf}
 use Rattle.preset.specs.declared.entry.Entry.{Entry}
 use Rattle.preset.specs.declared.header.Head.{Head}
 use Rattle.preset.specs.declared.header.Header.{Header}
-use Rattle.preset.specs.Answers.{Answer, andThen, many}
+use Rattle.preset.specs.Answers.{andThen}
 use Rattle.preset.specs.Entries.{letter, fits, entry, entry-bytes}
 use Rattle.preset.specs.Fields.{field}
 use Rattle.preset.specs.Items.{sent, each-fits}
@@ -35,7 +34,7 @@ use Rattle.preset.specs.Laws.{Bytes, Preset-reads-back, Preset-writes-back, On
 use Rattle.preset.specs.Numbers.{number, number-limit, spell}
 use Rattle.preset.specs.Presets.{Preset, few-words, counted, kind-read, head-read, letters-read, entries-read, preset, ended, whole-preset}
 use Rattle.preset.specs.Writes.{tested, size-tests, head-checked, fronts, strips-checked, contents-checked, checked, header-numbers, preset-bytes}
-use Rattle.preset.proofs.Faithful.{never, and-ok, cond-ok, pair-0, pair-1, bytes-after, Faithful, field-faithful, entry-faithful, many-back, many-sent, Sent}
+use Rattle.preset.proofs.Faithful.{never, and-ok, cond-ok, pair-0, pair-1, bytes-after, field-faithful, entry-faithful, many-back, many-sent}
 use Rattle.preset.proofs.Heads.{few-part, head-done, sizes-pass}
 use Rattle.preset.proofs.NumberLaws.{reads-back, spells-back}
 use Rattle.preset.proofs.Scanning.{preset-is}

@@ -1,7 +1,7 @@
 -- How a number is read from its first byte on. Assumes nothing.
 use Prim.Native.Nat.{ℕ, suc, _+_, _-_, _*_, _%_, _^_, _≤_, _<_}
 use mathlib.Core.Path.{_≡_, sym, ap, _∙_}
-use mathlib.Core.List.{List, [], _∷_, map}
+use mathlib.Core.List.{List, map}
 use lib.ListN.{length, getD, take, drop, length-drop}
 use lib.Pow.{pow-add}
 use native.Mathlib.Omega.{arith}

@@ -1,11 +1,11 @@
 -- One item more of what is read, checked, counted and written. Assumes nothing.
 use Prim.Native.Nat.{ℕ, zero, suc, _+_, _-_, _≤_, _<_}
 use mathlib.Core.Path.{_≡_, refl, sym, ap, _∙_}
-use mathlib.Core.Bool.{Bool, true, false, cond}
+use mathlib.Core.Bool.{Bool, true, false}
 use mathlib.Core.List.{List, [], _∷_, _++_, append-assoc, append-nil}
 use lib.ListN.{length, getD, take, drop, set, length-append}
 use native.Mathlib.Omega.{arith}
-use Rattle.std.proofs.shelf.Lists.{at-drop-more, at-drop-all, take-more, joined-more, take-more-set, drop-set-lt, length-take-le, take-append-drop, drop-drop, getD-read}
+use Rattle.std.proofs.shelf.Lists.{at-drop-more, at-drop-all, take-more, joined-more, take-more-set, drop-set-lt, length-take-le, take-append-drop, drop-drop}
 use Rattle.std.specs.Results.{isOk}
 use Rattle.std.specs.declared.result.Result.{Result}
 use Rattle.std.specs.declared.result.Result.the-variants.{Ok, Err}

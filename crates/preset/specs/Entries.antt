@@ -7,7 +7,7 @@ use lib.IntN.{ℤ, pos, negsuc}
 use lib.ListN.{length}
 use Rattle.std.specs.declared.option.Option.{Option}
 use Rattle.std.specs.declared.option.Option.the-variants.{None, Some}
-use Rattle.std.specs.declared.result.Result.the-variants.{Ok, Err}
+use Rattle.std.specs.declared.result.Result.the-variants.{Ok}
 use Rattle.fault.specs.declared.Stop.the-variants.{BadLetter, BadEntry}
 use Rattle.charge.specs.declared.kind.ChargeKind.{ChargeKind}
 use Rattle.charge.specs.declared.kind.ChargeKind.the-variants.{Voices, Pitch, Channels, Both}

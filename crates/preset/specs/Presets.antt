@@ -1,18 +1,15 @@
 -- Presets: what one holds, how it is read and how it is written. Assumes nothing.
-use Prim.Native.Nat.{ℕ, suc, _+_, _-_, _^_, _<_, _≤_}
-use mathlib.Core.Path.{_≡_}
-use mathlib.Core.Bool.{Bool, true, cond, _&&_, _||_}
-use mathlib.Core.List.{List, [], _∷_, _++_}
-use lib.Dec.{leb, ltb}
-use lib.ListN.{length, take}
+use Prim.Native.Nat.{ℕ, suc, _+_, _-_, _^_}
+use mathlib.Core.Bool.{Bool, cond, _&&_}
+use mathlib.Core.List.{List, [], _∷_}
+use lib.Dec.{leb}
+use lib.ListN.{length}
 use Rattle.std.specs.Options.{okOr, mapped}
 use Rattle.std.specs.declared.option.Option.{Option}
 use Rattle.std.specs.declared.option.Option.the-variants.{None, Some}
 use Rattle.std.specs.declared.result.Result.{Result}
 use Rattle.std.specs.declared.result.Result.the-variants.{Ok, Err}
-use Rattle.std.specs.shelf.Lists.{All}
-use Rattle.fault.specs.declared.Stop.{Stop}
-use Rattle.fault.specs.declared.Stop.the-variants.{UnknownKind, BadAlphabet, BadWindow, BadReach, BadWidth, TooManyWords, SurplusBytes, ShortStrip, BadLetter, BadEntry}
+use Rattle.fault.specs.declared.Stop.the-variants.{UnknownKind, BadAlphabet, BadWindow, BadReach, BadWidth, TooManyWords, SurplusBytes, ShortStrip}
 use Rattle.fault.specs.Limits.{least-letters, most-letters, most-window, most-width, most-words}
 use Rattle.fault.specs.Refusals.{Refusal, refused-at}
 use Rattle.charge.specs.declared.kind.ChargeKind.{ChargeKind}
@@ -20,11 +17,10 @@ use Rattle.charge.specs.Numbers.{numberOf, kindOf}
 use Rattle.preset.specs.declared.entry.Entry.{Entry}
 use Rattle.preset.specs.declared.header.Head.{Head}
 use Rattle.preset.specs.declared.header.Header.{Header}
-use Rattle.preset.specs.Answers.{Answer, andThen, many, front, filled}
-use Rattle.preset.specs.Entries.{letter, entry, entry-bytes, fits}
+use Rattle.preset.specs.Answers.{Answer, andThen, many, front}
+use Rattle.preset.specs.Entries.{letter, entry}
 use Rattle.preset.specs.Fields.{field, within}
-use Rattle.preset.specs.Items.{sent, each-fits}
-use Rattle.preset.specs.Numbers.{number, spell}
+use Rattle.preset.specs.Numbers.{number}
 
 -- there are few enough words of m letters
 abbrev pub few-words : ℕ → ℕ → Bool

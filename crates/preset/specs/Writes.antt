@@ -11,7 +11,6 @@ use Rattle.fault.specs.declared.Stop.{Stop}
 use Rattle.fault.specs.declared.Stop.the-variants.{UnknownKind, BadAlphabet, BadWindow, BadReach, BadWidth, TooManyWords, ShortStrip, BadLetter, BadEntry}
 use Rattle.fault.specs.Limits.{least-letters, most-letters, most-window, most-width}
 use Rattle.fault.specs.Refusals.{Refusal, refused-at}
-use Rattle.charge.specs.declared.kind.ChargeKind.{ChargeKind}
 use Rattle.charge.specs.Numbers.{kindOf}
 use Rattle.preset.specs.declared.entry.Entry.{Entry}
 use Rattle.preset.specs.declared.header.Head.{Head}

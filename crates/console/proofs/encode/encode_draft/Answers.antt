@@ -1,5 +1,5 @@
 use Prim.Native.Nat.{ℕ}
-use mathlib.Core.Path.{sym, ap₂, _∙_}
+use mathlib.Core.Path.{ap₂, _∙_}
 use mathlib.Core.List.{List}
 use Rattle.preset.specs.declared.entry.Entry.{Entry}
 use Rattle.preset.specs.Presets.{strip-after}

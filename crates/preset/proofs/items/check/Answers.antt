@@ -1,7 +1,4 @@
-use mathlib.Core.Path.{sym, _∙_, ap}
-use mathlib.Core.Bool.{true, false}
-use Rattle.fault.specs.Refusals.{refused-at}
-use Rattle.std.specs.declared.result.Result.the-variants.{Err}
+use mathlib.Core.Path.{sym, _∙_}
 use Rattle.preset.proofs.Turns.{fits-more, fits-stop, fits-all}
 use Rattle.preset.proofs.items.check.Needs as need
 

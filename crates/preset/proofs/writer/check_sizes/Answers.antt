@@ -1,8 +1,7 @@
-use Prim.Native.Nat.{_+_, _-_, _≤_, _<_}
+use Prim.Native.Nat.{_+_, _-_}
 use mathlib.Core.Path.{_≡_, sym}
 use mathlib.Core.Bool.{true}
 use native.Mathlib.Omega.{arith}
-use Rattle.std.proofs.shelf.Ways.{tells}
 use Rattle.preset.specs.Presets.{few-words}
 use Rattle.preset.proofs.Heads.{few-part, sizes-pass}
 use Rattle.preset.proofs.writer.check_sizes.Needs as need
