@@ -6,3 +6,4 @@ pub mod ReadBack
 pub mod Reading
 pub mod Rows
 pub mod Showing
+pub mod ShownBack

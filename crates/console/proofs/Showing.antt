@@ -51,7 +51,7 @@ front-is : {X : Type 0} (xs strip after : List X) → after ≡ front xs strip �
 front-is {X} xs strip after e =
     (omega (arith, ap length e, length-append xs (drop (length xs) strip)), ap (take (length xs)) e ∙ take-at xs (drop (length xs) strip) (length xs) refl)
 
-and-ok : {X Y : Type 0} (a : Result X Refusal) (f : X → Result Y Refusal) (y : Y) → andThen a f ≡ Ok y → (x : X) × (a ≡ Ok x) × (f x ≡ Ok y)
+pub and-ok : {X Y : Type 0} (a : Result X Refusal) (f : X → Result Y Refusal) (y : Y) → andThen a f ≡ Ok y → (x : X) × (a ≡ Ok x) × (f x ≡ Ok y)
 and-ok (Ok x) f y e = (x, refl, e)
 and-ok (Err r) f y e = never e
 
@@ -59,7 +59,7 @@ roomy : {X : Type 0} (b : Bool) (r : Result X Refusal) (f : Refusal) (x : X) →
 roomy true r f x e = e
 roomy false r f x e = never e
 
-ok-is : {X : Type 0} {x y : X} → _≡_ {A = Result X Refusal} (Ok x) (Ok y) → x ≡ y
+pub ok-is : {X : Type 0} {x y : X} → _≡_ {A = Result X Refusal} (Ok x) (Ok y) → x ≡ y
 ok-is e = cc
 
 -- what two strips hold after a preset was read

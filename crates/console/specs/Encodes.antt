@@ -1,5 +1,5 @@
 -- How a page is turned into a preset's bytes. Assumes nothing.
-use Prim.Native.Nat.{ℕ}
+use Prim.Native.Nat.{ℕ, _≤_}
 use mathlib.Core.Path.{_≡_}
 use mathlib.Core.Bool.{cond}
 use mathlib.Core.List.{List, _++_}
@@ -15,12 +15,14 @@ use Rattle.fault.specs.Limits.{most-window, most-width}
 use Rattle.fault.specs.declared.Fault.{Fault}
 use Rattle.fault.specs.Refusals.{Refusal, refusal, reasonOf, sentence as fault-sentence}
 use Rattle.preset.specs.Answers as answers
+use Rattle.preset.specs.Laws.{Bytes}
 use Rattle.preset.specs.Presets.{counted}
 use Rattle.preset.specs.Writes.{checked, preset-bytes, fitting}
 use Rattle.console.specs.Errors.{sentence as text-sentence}
 use Rattle.console.specs.Grammar.{Content, parsed}
 use Rattle.console.specs.Refusals.{refused-line}
 use Rattle.console.specs.Rows.{Reading}
+use Rattle.console.specs.Shows.{shown}
 use Rattle.console.specs.declared.encode.EncodeError.{EncodeError}
 use Rattle.console.specs.declared.encode.EncodeError.the-variants.{Text, Letters, Entries, Refused}
 use Rattle.console.specs.declared.error.TextError.{TextError}
@@ -93,6 +95,11 @@ bytes-of d =
 -- the bytes of the preset that a text writes
 abbrev pub encoded : List ℕ → Encoding (List ℕ)
 encoded bs = then (from-text (parsed bs)) bytes-of
+
+-- what is shown of a preset is encoded as its bytes again
+abbrev pub Shown-encodes-back : Type 0
+Shown-encodes-back =
+    (bs page : List ℕ) → Bytes bs → length bs ≤ most-preset → shown bs ≡ Ok page → encoded page ≡ Ok bs
 
 -- why a page gives no preset, in one sentence: by the line of the part that is refused, if it is known
 abbrev pub refused-text : Fault → Option ℕ → List ℕ

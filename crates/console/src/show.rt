@@ -6,6 +6,7 @@ ghost use Rattle.std.specs.Of.String.{string-bytes};
 ghost use Rattle.std.specs.Vec.{made};
 ghost use Rattle.std.specs.declared.result.Result.the-variants.{Ok};
 ghost use Rattle.fault.specs.Limits.{most-words};
+ghost use Rattle.console.specs.Encodes.{Shown-encodes-back};
 ghost use Rattle.console.specs.Shows.{shown, told, Held};
 use crate::writer::page;
 use charge::ChargeKind;
@@ -69,7 +70,8 @@ fn show_over(
 
 // The page of the preset that the bytes are, or its refusal.
 pub fn show_preset(heap: Global, input: &[u8]) -> Result<Result<String, Fault>, AllocError>
-    ensures { λ r. ⌜ made r (λ s. told string-bytes s ≡ shown (now (input .entry))) ⌝ }
+    ensures page { λ r. ⌜ made r (λ s. told string-bytes s ≡ shown (now (input .entry))) ⌝ }
+    ensures encodes_back { λ _. ⌜ Shown-encodes-back ⌝ }
 {
     let mut letters = [0; STRIP];
     let mut entries = [Entry {

@@ -2,7 +2,7 @@
 use Prim.Native.Nat.{ℕ, suc, _+_, _-_, _^_, _≤_, _<_}
 use mathlib.Core.Path.{_≡_, refl, sym, ap, ap₂, subst, _∙_}
 use mathlib.Core.Bool.{Bool, true, false, cond}
-use mathlib.Core.List.{List, [], _∷_, _++_, append-assoc}
+use mathlib.Core.List.{List, [], _∷_, _++_, append-assoc, append-nil}
 use lib.Dec.{ltb, leb}
 use lib.ListN.{length}
 use borrow.Author.Tests.{le-leb, lt-ltb, leb-true, ltb-true}
@@ -338,11 +338,16 @@ whole-is bs p e =
     ended-so whole x [] e = (cc, refl)
     ended-so whole x (b ∷ rest) e = never e
 
+pub whole-good : (bs : List ℕ) (p : Preset) → Bytes bs → whole-preset bs ≡ Ok p → Good p
+whole-good bs p u e = preset-sent bs p [] u (whole-is bs p e) .good
+
+pub whole-so : (bs : List ℕ) (p : Preset) → Bytes bs → whole-preset bs ≡ Ok p → (checked (p .head .header) (p .letters) (p .entries) ≡ Ok p) × (bs ≡ preset-bytes p)
+whole-so bs p u e =
+    let s = preset-writes-back bs p [] u (whole-is bs p e) in
+    (s .0, s .1 ∙ append-nil (preset-bytes p))
+
 pub one-spelling : One-spelling
-one-spelling bs cs p u v e f =
-    let a = preset-writes-back bs p [] u (whole-is bs p e) in
-    let b = preset-writes-back cs p [] v (whole-is cs p f) in
-    a .1 ∙ sym (b .1)
+one-spelling bs cs p u v e f = whole-so bs p u e .1 ∙ sym (whole-so cs p v f .1)
 
 counted-some : (most q m count : ℕ) → 2 ≤ q → q < 9 → 1 ≤ m → m < suc most → q ^ m ≤ most-words → count ≡ q ^ m → counted most q m ≡ Some count
 counted-some most q m count q₁ q₂ m₁ m₂ few e =
@@ -350,7 +355,7 @@ counted-some most q m count q₁ q₂ m₁ m₂ few e =
 
 pub preset-sizes : Preset-sizes
 preset-sizes bs p u e =
-    let g = preset-sent bs p [] u (whole-is bs p e) .good in
+    let g = whole-good bs p u e in
     let h = p .head .header in
     let s = g .sized in (
       ap kindOf (sym (g .named)) ∙ number-kind (p .head .kind),
