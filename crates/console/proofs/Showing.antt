@@ -16,14 +16,12 @@ use Rattle.charge.specs.Numbers.{kindOf}
 use Rattle.charge.specs.declared.kind.ChargeKind.{ChargeKind}
 use Rattle.preset.specs.declared.entry.Entry.{Entry}
 use Rattle.preset.specs.declared.header.Header.{Header}
-use Rattle.preset.specs.Answers.{andThen, front}
+use Rattle.preset.specs.Answers.{andThen, front, strip-after}
 use Rattle.preset.specs.Laws.{Bytes, Preset-sizes}
-use Rattle.preset.specs.Presets.{counted, whole-preset, whole-reading, header-of, strip-after}
+use Rattle.preset.specs.Presets.{counted, whole-preset, whole-reading, header-of}
+use Rattle.preset.proofs.Outcomes.{never, ok-is, and-ok}
 use Rattle.console.specs.Pages.{page-text}
 use Rattle.console.specs.Shows.{shown, Held}
-
-never : {X A F : Type 0} {x : A} {y : F} → _≡_ {A = Result A F} (Err y) (Ok x) → X
-never e = let z : _≡_ {A = ℕ} 0 1 = cc in absurd (omega arith)
 
 some-is : {X : Type 0} {x y : X} → _≡_ {A = Option X} (Some x) (Some y) → x ≡ y
 some-is e = cc
@@ -51,16 +49,9 @@ front-is : {X : Type 0} (xs strip after : List X) → after ≡ front xs strip �
 front-is {X} xs strip after e =
     (omega (arith, ap length e, length-append xs (drop (length xs) strip)), ap (take (length xs)) e ∙ take-at xs (drop (length xs) strip) (length xs) refl)
 
-pub and-ok : {X Y : Type 0} (a : Result X Refusal) (f : X → Result Y Refusal) (y : Y) → andThen a f ≡ Ok y → (x : X) × (a ≡ Ok x) × (f x ≡ Ok y)
-and-ok (Ok x) f y e = (x, refl, e)
-and-ok (Err r) f y e = never e
-
 roomy : {X : Type 0} (b : Bool) (r : Result X Refusal) (f : Refusal) (x : X) → cond b r (Err f) ≡ Ok x → r ≡ Ok x
 roomy true r f x e = e
 roomy false r f x e = never e
-
-pub ok-is : {X : Type 0} {x y : X} → _≡_ {A = Result X Refusal} (Ok x) (Ok y) → x ≡ y
-ok-is e = cc
 
 -- what two strips hold after a preset was read
 pub read-held : (bs : List ℕ) (header : Header) (ls ls′ : List ℕ) (es es′ : List Entry) → Bytes bs → Preset-sizes

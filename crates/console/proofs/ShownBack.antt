@@ -19,6 +19,7 @@ use Rattle.preset.specs.Entries.{fits, signed-fits}
 use Rattle.preset.specs.Laws.{Bytes}
 use Rattle.preset.specs.Presets.{Preset, whole-preset}
 use Rattle.preset.specs.Writes.{preset-bytes}
+use Rattle.preset.proofs.Outcomes.{ok-is, and-ok}
 use Rattle.preset.proofs.PresetLaws.{whole-good, whole-so, preset-sizes}
 use Rattle.console.specs.Encodes.{encoded, bytes-of, counts-tested, most-preset, Shown-encodes-back}
 use Rattle.console.specs.Grammar.{Content, parsed}
@@ -26,7 +27,6 @@ use Rattle.console.specs.Numbers.{number-end}
 use Rattle.console.specs.ReadBack.{Of-kind, Holdable, page-lines}
 use Rattle.console.specs.Shows.{page-of}
 use Rattle.console.proofs.ReadBack.{page-returns}
-use Rattle.console.proofs.Showing.{and-ok, ok-is}
 
 -- the parts of an entry are numbers of a page
 signed-small : (z : ℤ) → voices-range z ≡ true → natAbs z < number-end

@@ -1,7 +1,7 @@
 -- Reading and sending letters and entries undo one another. Assumes nothing.
 use Prim.Native.Nat.{ℕ, zero, suc, _+_, _-_, _*_, _/_, _%_, _^_, _≤_, _<_}
 use mathlib.Core.Path.{_≡_, refl, sym, ap, _∙_}
-use mathlib.Core.Bool.{Bool, true, false, cond, _&&_}
+use mathlib.Core.Bool.{Bool, true, false, _&&_}
 use mathlib.Core.Logic.{inl, inr}
 use mathlib.Core.List.{List, [], _∷_, _++_, append-assoc}
 use lib.Dec.{ltb, leb, eqb, lit≤}
@@ -14,12 +14,10 @@ use Rattle.std.proofs.shelf.Lists.{drop-at}
 use Rattle.std.proofs.shelf.Tests.{and-parts, and-from, cases-bool}
 use Rattle.std.specs.declared.option.Option.{Option}
 use Rattle.std.specs.declared.option.Option.the-variants.{None, Some}
-use Rattle.std.specs.declared.result.Result.{Result}
-use Rattle.std.specs.declared.result.Result.the-variants.{Ok, Err}
+use Rattle.std.specs.declared.result.Result.the-variants.{Ok}
 use Rattle.std.specs.shelf.Lists.{All}
 use Rattle.fault.specs.declared.Stop.{Stop}
 use Rattle.fault.specs.declared.Stop.the-variants.{BadEntry}
-use Rattle.fault.specs.Refusals.{Refusal}
 use Rattle.charge.specs.declared.kind.ChargeKind.{ChargeKind}
 use Rattle.charge.specs.declared.kind.ChargeKind.the-variants.{Voices, Pitch, Channels, Both}
 use Rattle.charge.specs.Ranges.{voices-range}
@@ -31,24 +29,7 @@ use Rattle.preset.specs.Items.{sent}
 use Rattle.preset.specs.Laws.{Bytes}
 use Rattle.preset.specs.Numbers.{number, number-limit, spell}
 use Rattle.preset.proofs.NumberLaws.{reads-back, spells-back}
-
-pub never : {X A F : Type 0} {x : A} {y : F} → _≡_ {A = Result A F} (Err y) (Ok x) → X
-never e = let z : _≡_ {A = ℕ} 0 1 = cc in absurd (omega arith)
-
--- where a reading passed, each step of it did
-pub and-ok : {X Y : Type 0} (a : Result X Refusal) (f : X → Result Y Refusal) (y : Y) → andThen a f ≡ Ok y → (x : X) × (a ≡ Ok x) × (f x ≡ Ok y)
-and-ok (Ok x) f y e = (x, refl, e)
-and-ok (Err r) f y e = never e
-
-pub cond-ok : {X : Type 0} (b : Bool) (x : X) (f : Refusal) (y : X) → cond b (Ok x) (Err f) ≡ Ok y → (b ≡ true) × (x ≡ y)
-cond-ok true x f y e = (refl, cc)
-cond-ok false x f y e = never e
-
-pub pair-0 : {A B F : Type 0} {a c : A} {b d : B} → _≡_ {A = Result (A × B) F} (Ok (a, b)) (Ok (c, d)) → a ≡ c
-pair-0 {A} {B} {F} {a} {c} {b} {d} e = let p : _≡_ {A = A × B} (a, b) (c, d) = cc in ap (λ (x : A × B). x .0) p
-
-pub pair-1 : {A B F : Type 0} {a c : A} {b d : B} → _≡_ {A = Result (A × B) F} (Ok (a, b)) (Ok (c, d)) → b ≡ d
-pair-1 {A} {B} {F} {a} {c} {b} {d} e = let p : _≡_ {A = A × B} (a, b) (c, d) = cc in ap (λ (x : A × B). x .1) p
+use Rattle.preset.proofs.Outcomes.{and-ok, cond-ok, pair-0, pair-1}
 
 -- the bytes after a front are bytes
 pub bytes-after : (bs xs rest : List ℕ) → Bytes bs → bs ≡ xs ++ rest → Bytes rest

@@ -1,6 +1,7 @@
 pub mod Faithful
 pub mod Heads
 pub mod NumberLaws
+pub mod Outcomes
 pub mod PresetLaws
 pub mod Reading
 pub mod Scanning

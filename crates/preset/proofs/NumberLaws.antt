@@ -22,6 +22,7 @@ use Rattle.fault.specs.declared.Stop.the-variants.{CutShort, Misspelt}
 use Rattle.fault.specs.Refusals.{refused-at}
 use Rattle.preset.specs.Answers.{Answer}
 use Rattle.preset.specs.Numbers.{number-limit, most-bytes, spell, tops, value, finished, first, misspelt, number, Cut-short, Misspelling, leading, long, large, Number-refusals, Number-reads-back, Number-spells-back}
+use Rattle.preset.proofs.Outcomes.{never}
 use Rattle.preset.proofs.Reading.{number-leading, number-long, number-large, number-cut, number-is}
 
 -- a byte with its top bit set
@@ -201,9 +202,6 @@ front-is bs h = take-more bs (tops bs) 0 h
 
 apart : (bs : List ℕ) → tops bs < length bs → bs ≡ take (tops bs) bs ++ (getD bs (tops bs) 0 ∷ drop (tops bs + 1) bs)
 apart bs h = sym (take-append-drop (tops bs) bs) ∙ ap (λ (xs : List ℕ). take (tops bs) bs ++ xs) (drop-more bs (tops bs) 0 h)
-
-never : {X : Type 0} {x : ℕ × List ℕ} {y : ℕ × ℕ} → _≡_ {A = Answer ℕ} (Err y) (Ok x) → X
-never e = let z : _≡_ {A = ℕ} 0 1 = cc in absurd (omega arith)
 
 code-in : Answer ℕ → ℕ
 code-in (Ok x) = 0

@@ -34,9 +34,10 @@ use Rattle.preset.specs.Laws.{Bytes, Preset-reads-back, Preset-writes-back, On
 use Rattle.preset.specs.Numbers.{number, number-limit, spell}
 use Rattle.preset.specs.Presets.{Preset, few-words, counted, kind-read, head-read, letters-read, entries-read, preset, ended, whole-preset}
 use Rattle.preset.specs.Writes.{tested, size-tests, head-checked, fronts, strips-checked, contents-checked, checked, header-numbers, preset-bytes}
-use Rattle.preset.proofs.Faithful.{never, and-ok, cond-ok, pair-0, pair-1, bytes-after, field-faithful, entry-faithful, many-back, many-sent}
+use Rattle.preset.proofs.Faithful.{bytes-after, field-faithful, entry-faithful, many-back, many-sent}
 use Rattle.preset.proofs.Heads.{few-part, head-done, sizes-pass}
 use Rattle.preset.proofs.NumberLaws.{reads-back, spells-back}
+use Rattle.preset.proofs.Outcomes.{never, ok-is, and-ok, cond-ok, pair-0, pair-1}
 use Rattle.preset.proofs.Scanning.{preset-is}
 
 -- a kind by its number
@@ -126,9 +127,6 @@ head-from h head e =
     let i : record { kind = s .0; header = h } ≡ head = ok-is (t .2) in
     (sym (ap (λ (x : Head). x .header) i), okOr-some (kindOf (h .kind)) (refused-at UnknownKind 0) (s .0) (s .1) ∙ ap (λ (x : Head). Some (x .kind)) i, sized-from h (t .1))
   where
-    ok-is : {X : Type 0} {x y : X} → _≡_ {A = Result X Refusal} (Ok x) (Ok y) → x ≡ y
-    ok-is e = cc
-
     okOr-some : {X : Type 0} (o : Option X) (f : Refusal) (x : X) → okOr o f ≡ Ok x → o ≡ Some x
     okOr-some None f x e = never e
     okOr-some (Some y) f x e = let i : y ≡ x = cc in ap (λ z. Some z) i
@@ -142,7 +140,7 @@ good-from h letters entries p e =
     let f = head-from h head (a .1) in
     let s = cond-ok _ (fronts head letters entries) (refused-at ShortStrip 0) (b .0) (b .1) in
     let room = and-parts (leb (head .header .q ^ head .header .n) (length letters)) (leb (head .header .q ^ head .header .k) (length entries)) (s .0) in
-    let is : fronts head letters entries ≡ p = s .1 ∙ ok-same (c .2) in
+    let is : fronts head letters entries ≡ p = s .1 ∙ ok-is (c .2) in
     let d = and-ok (each-fits (λ x. ltb x (b .0 .head .header .q)) BadLetter 0 (b .0 .letters)) (λ _. each-fits (fits (b .0 .head .kind)) BadEntry 0 (b .0 .entries)) tt (c .1) in
     let g : Good (fronts head letters entries) = record {
       named = kind-number (h .kind) (head .kind) (f .1) ∙ ap (λ (x : Header). x .kind) (sym (f .0));
@@ -153,9 +151,6 @@ good-from h letters entries p e =
       entries-fit = subst (λ (x : Preset). All (λ y. fits (x .head .kind) y ≡ true) (x .entries)) (sym (s .1)) (fits-from (fits (b .0 .head .kind)) BadEntry 0 (b .0 .entries) (d .2));
     } in
     rw (sym is) g
-  where
-    ok-same : {X : Type 0} {x y : X} → _≡_ {A = Result X Refusal} (Ok x) (Ok y) → x ≡ y
-    ok-same e = cc
 
 checked-from : (p : Preset) → Good p → checked (p .head .header) (p .letters) (p .entries) ≡ Ok p
 checked-from p g =

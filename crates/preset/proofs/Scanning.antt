@@ -13,8 +13,8 @@ use Rattle.fault.specs.Refusals.{Refusal, refused-at}
 use Rattle.preset.specs.declared.entry.Entry.{Entry}
 use Rattle.preset.specs.declared.header.Head.{Head}
 use Rattle.preset.specs.declared.reader.Scan.{Scan}
-use Rattle.preset.specs.Answers.{Answer, rest-of}
-use Rattle.preset.specs.Presets.{Preset, preset, head-read, letters-read, entries-read, ended, whole-preset, with-room, whole-reading, header-of, strip-after}
+use Rattle.preset.specs.Answers.{Answer, rest-of, strip-after}
+use Rattle.preset.specs.Presets.{Preset, preset, head-read, letters-read, entries-read, ended, whole-preset, with-room, whole-reading, header-of}
 use Rattle.preset.specs.Scans.{Scanned}
 
 -- what was read before a rest

@@ -11,7 +11,7 @@ use Rattle.std.specs.declared.result.Result.{Result}
 use Rattle.std.specs.declared.result.Result.the-variants.{Ok, Err}
 use Rattle.fault.specs.declared.Stop.{Stop}
 use Rattle.fault.specs.Refusals.{Refusal, refused-at}
-use Rattle.preset.specs.Answers.{Answer, andThen, many, rest-of, over, filled}
+use Rattle.preset.specs.Answers.{Answer, andThen, many, rest-of, over, strip-after}
 use Rattle.preset.specs.Items.{sent, each-fits}
 use Rattle.preset.proofs.Strips.{over-over}
 
@@ -69,7 +69,7 @@ module _ {X : Type 0} (read : List ℕ → Answer X) where
       cc
 
   pub ahead-all : (n i : ℕ) (bs : List ℕ) (strip was : List X) (all : Answer (List X)) → i ≡ n → n ≤ length strip → drop i strip ≡ drop i was
-      → all ≡ ahead (take i strip) (many read (n - i) bs) → strip ≡ filled was all
+      → all ≡ ahead (take i strip) (many read (n - i) bs) → strip ≡ strip-after (λ p. p .0) was all
   ahead-all n i bs strip was all e k d a =
       let z : n - i ≡ 0 = omega arith in
       let b : all ≡ Ok (take i strip ++ [], bs) = a ∙ rw z in

@@ -48,7 +48,7 @@ over strip at xs = take at strip ++ (xs ++ drop (at + length xs) strip)
 abbrev pub front : {X : Type 0} → List X → List X → List X
 front xs strip = xs ++ drop (length xs) strip
 
--- a strip after a reading: what was read stands at its front; after a refusal it is as it was
-abbrev pub filled : {X : Type 0} → List X → Answer (List X) → List X
-filled strip (Ok p) = front (p .0) strip
-filled strip (Err f) = strip
+-- a strip after a reading: a part of what was read stands at its front; after a refusal it is as it was
+abbrev pub strip-after : {X Y : Type 0} → (Y → List X) → List X → Result Y Refusal → List X
+strip-after part strip (Ok y) = front (part y) strip
+strip-after part strip (Err f) = strip

@@ -17,7 +17,7 @@ use Rattle.charge.specs.Numbers.{numberOf, kindOf}
 use Rattle.preset.specs.declared.entry.Entry.{Entry}
 use Rattle.preset.specs.declared.header.Head.{Head}
 use Rattle.preset.specs.declared.header.Header.{Header}
-use Rattle.preset.specs.Answers.{Answer, andThen, many, front}
+use Rattle.preset.specs.Answers.{Answer, andThen, many}
 use Rattle.preset.specs.Entries.{letter, entry}
 use Rattle.preset.specs.Fields.{field, within}
 use Rattle.preset.specs.Numbers.{number}
@@ -95,8 +95,3 @@ header-of r = andThen r (λ p. Ok (p .head .header))
 
 abbrev pub header-and-rest : Answer Preset → Answer Header
 header-and-rest r = andThen r (λ y. Ok (y .0 .head .header, y .1))
-
--- a strip after a reading: a part of what was read stands at its front; after a refusal it is as it was
-abbrev pub strip-after : {X Y : Type 0} → (Y → List X) → List X → Result Y Refusal → List X
-strip-after part strip (Ok y) = front (part y) strip
-strip-after part strip (Err f) = strip

@@ -7,7 +7,7 @@ ghost use lib.ListN.{length};
 ghost use Rattle.std.specs.Vec.{made};
 ghost use Rattle.std.specs.Results.{isOk};
 ghost use Rattle.std.specs.declared.result.Result.the-variants.{Ok};
-ghost use Rattle.preset.specs.Answers.{seen, plainly, many, over, rest-of, passed, filled};
+ghost use Rattle.preset.specs.Answers.{seen, plainly, many, over, rest-of, passed, strip-after};
 ghost use Rattle.preset.specs.Items.{Format, sent, each-fits};
 ghost use Rattle.preset.specs.declared.shape.Shape.{Shape};
 use crate::shape::Shape;
@@ -86,7 +86,7 @@ pub(crate) fn fill<T: Item>(shape: Shape, whole: usize, input: &[u8], strip: &mu
     requires within { ⌜ length (now input) ≤ whole ⌝ }
     requires room { ⌜ count ≤ length (now strip) ⌝ }
     requires there { ⌜ isOk (many (T·Item .format .reads shape whole) count (now input)) ≡ true ⌝ }
-    ensures { λ _. ⌜ now (strip .exit) ≡ filled (now (strip .entry)) (many (T·Item .format .reads shape whole) count (now (input .entry))) ⌝ }
+    ensures { λ _. ⌜ now (strip .exit) ≡ strip-after (λ p. p .0) (now (strip .entry)) (many (T·Item .format .reads shape whole) count (now (input .entry))) ⌝ }
 {
     let mut rest = input;
     for i in 0..count {
