@@ -14,7 +14,7 @@ use Rattle.std.specs.declared.result.Result.the-variants.{Ok, Err}
 use Rattle.fault.specs.Limits.{most-window, most-width}
 use Rattle.fault.specs.declared.Fault.{Fault}
 use Rattle.fault.specs.Refusals.{Refusal, refusal, reasonOf, sentence as fault-sentence}
-use Rattle.preset.specs.Answers as answers
+use Rattle.preset.specs.Answers.{andThen}
 use Rattle.preset.specs.Laws.{Bytes}
 use Rattle.preset.specs.Presets.{counted}
 use Rattle.preset.specs.Writes.{checked, preset-bytes, fitting}
@@ -59,10 +59,6 @@ answered f (Err e) = Err (problem e)
 abbrev pub Answered : {X : Type 0} → Encoding X → Encoding X → Type 0
 Answered r s = (r ≡ Err (text Memory) → ⊥) → r ≡ s
 
-abbrev pub then : {X Y : Type 0} → Encoding X → (X → Encoding Y) → Encoding Y
-then (Ok x) f = f x
-then (Err e) f = Err e
-
 -- an error of the text, and a refusal of the writer
 abbrev pub from-text : {X : Type 0} → Reading X → Encoding X
 from-text (Ok x) = Ok x
@@ -83,18 +79,18 @@ unless-miscounted because (Some n) = Err (because n)
 
 abbrev pub counts-tested : Content → Encoding (Unit {0})
 counts-tested d =
-    then (unless-miscounted (letters (d .lines .rule)) (miscounted (counted most-window (d .header .q) (d .header .n)) (length (d .letters)))) (λ _.
+    andThen (unless-miscounted (letters (d .lines .rule)) (miscounted (counted most-window (d .header .q) (d .header .n)) (length (d .letters)))) (λ _.
     unless-miscounted (entries (d .lines .density)) (miscounted (counted most-width (d .header .q) (d .header .k)) (length (d .entries))))
 
 -- the bytes of what a page holds
 abbrev pub bytes-of : Content → Encoding (List ℕ)
 bytes-of d =
-    then (counts-tested d) (λ _.
-    from-writer (d .lines) (answers.andThen (checked (d .header) (d .letters) (d .entries)) (λ p. fitting most-preset (preset-bytes p))))
+    andThen (counts-tested d) (λ _.
+    from-writer (d .lines) (andThen (checked (d .header) (d .letters) (d .entries)) (λ p. fitting most-preset (preset-bytes p))))
 
 -- the bytes of the preset that a text writes
 abbrev pub encoded : List ℕ → Encoding (List ℕ)
-encoded bs = then (from-text (parsed bs)) bytes-of
+encoded bs = andThen (from-text (parsed bs)) bytes-of
 
 -- what is shown of a preset is encoded as its bytes again
 abbrev pub Shown-encodes-back : Type 0

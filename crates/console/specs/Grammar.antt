@@ -7,8 +7,9 @@ use Rattle.charge.specs.Numbers.{numberOf}
 use Rattle.charge.specs.declared.kind.ChargeKind.{ChargeKind}
 use Rattle.preset.specs.declared.entry.Entry.{Entry}
 use Rattle.preset.specs.declared.header.Header.{Header}
+use Rattle.preset.specs.Answers.{andThen}
 use Rattle.console.specs.Forms.{letter, entry}
-use Rattle.console.specs.Rows.{Reading, andThen, kind-row, number-row, items-row, ending}
+use Rattle.console.specs.Rows.{Reading, kind-row, number-row, items-row, ending}
 use Rattle.console.specs.Words.{Place}
 use Rattle.console.specs.declared.draft.Draft.{Draft}
 use Rattle.console.specs.declared.error.Expected.the-variants as expected

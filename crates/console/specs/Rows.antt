@@ -10,6 +10,7 @@ use Rattle.std.specs.declared.option.Option.{Option}
 use Rattle.std.specs.declared.result.Result.{Result}
 use Rattle.std.specs.declared.result.Result.the-variants.{Ok, Err}
 use Rattle.std.specs.shelf.Text.{sameBytes}
+use Rattle.preset.specs.Answers.{andThen}
 use Rattle.console.specs.Names.{part-text, kind-of}
 use Rattle.console.specs.Numbers.{number}
 use Rattle.console.specs.Places.{at, next}
@@ -44,11 +45,6 @@ row-of f r = record { value = f (r .value); line = r .line; after = at (r .after
 -- an answer is as defined, unless there is no memory
 abbrev pub Told : {X : Type 0} → Reading X → Reading X → Type 0
 Told r s = (r ≡ Err Memory → ⊥) → r ≡ s
-
--- the first error is the answer; otherwise it goes on
-abbrev pub andThen : {X Y : Type 0} → Reading X → (X → Reading Y) → Reading Y
-andThen (Ok x) f = f x
-andThen (Err e) f = Err e
 
 abbrev pub valued : {X Y : Type 0} → Row X → Y → Row Y
 valued r y = record { value = y; line = r .line; after = r .after }

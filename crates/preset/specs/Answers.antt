@@ -23,7 +23,7 @@ plainly (Ok x) = Ok x
 plainly (Err f) = Err (refusal f)
 
 -- the first refusal is the answer; otherwise it goes on
-abbrev pub andThen : {X Y : Type 0} → Result X Refusal → (X → Result Y Refusal) → Result Y Refusal
+abbrev pub andThen : {X Y F : Type 0} → Result X F → (X → Result Y F) → Result Y F
 andThen (Ok x) f = f x
 andThen (Err e) f = Err e
 
