@@ -349,13 +349,18 @@ def random_bytes(chance, length):
     return bytes(chance.below(256) for _ in range(length))
 
 
+def small_presets(chance, count):
+    """The bytes of small presets of any kind, each made as it is asked for."""
+    small = shapes(24)
+    for _ in range(count):
+        preset = random_preset(chance, chance.pick(KINDS), *chance.pick(small))
+        yield bytearray(write_preset(preset))
+
+
 def byte_flips(chance):
     """Presets with one to three bytes changed."""
     inputs = []
-    small = shapes(24)
-    for _ in range(400):
-        preset = random_preset(chance, chance.pick(KINDS), *chance.pick(small))
-        data = bytearray(write_preset(preset))
+    for data in small_presets(chance, 400):
         for _ in range(chance.between(1, 3)):
             at = chance.below(len(data))
             if chance.happens(50):
@@ -369,15 +374,12 @@ def byte_flips(chance):
 def byte_edits(chance):
     """Presets with one byte taken out or put in."""
     inputs = []
-    small = shapes(24)
-    for _ in range(200):
-        preset = random_preset(chance, chance.pick(KINDS), *chance.pick(small))
-        data = write_preset(preset)
+    for data in small_presets(chance, 200):
         at = chance.below(len(data))
         if chance.happens(50):
-            inputs.append(data[:at] + data[at + 1:])
+            inputs.append(bytes(data[:at] + data[at + 1:]))
         else:
-            inputs.append(data[:at] + random_bytes(chance, 1) + data[at:])
+            inputs.append(bytes(data[:at] + random_bytes(chance, 1) + data[at:]))
     return inputs
 
 
@@ -402,10 +404,7 @@ def random_strings(chance):
 def header_changes(chance):
     """Presets with one or two header bytes changed to small values."""
     inputs = []
-    small = shapes(24)
-    for _ in range(300):
-        preset = random_preset(chance, chance.pick(KINDS), *chance.pick(small))
-        data = bytearray(write_preset(preset))
+    for data in small_presets(chance, 300):
         for _ in range(chance.between(1, 2)):
             data[chance.below(5)] = chance.below(16)
         inputs.append(bytes(data))

@@ -1,4 +1,4 @@
--- Numbers, letters and entries as words. Assumes nothing.
+-- Numbers as words. Assumes nothing.
 use Prim.Native.Nat.{ℕ, _+_, _-_, _*_, _^_}
 use mathlib.Core.Bool.{cond, _&&_}
 use mathlib.Core.List.{List, [], _∷_, map}

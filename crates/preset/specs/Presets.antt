@@ -1,4 +1,4 @@
--- Presets: what one holds, how it is read and how it is written. Assumes nothing.
+-- Presets: what one holds, and how it is read. Assumes nothing.
 use Prim.Native.Nat.{ℕ, suc, _+_, _-_, _^_}
 use mathlib.Core.Bool.{Bool, cond, _&&_}
 use mathlib.Core.List.{List, [], _∷_}
