@@ -349,7 +349,7 @@ def random_bytes(chance, length):
     return bytes(chance.below(256) for _ in range(length))
 
 
-def small_presets(chance, count):
+def drawn_presets(chance, count):
     """The bytes of small presets of any kind, each made as it is asked for."""
     small = shapes(24)
     for _ in range(count):
@@ -360,7 +360,7 @@ def small_presets(chance, count):
 def byte_flips(chance):
     """Presets with one to three bytes changed."""
     inputs = []
-    for data in small_presets(chance, 400):
+    for data in drawn_presets(chance, 400):
         for _ in range(chance.between(1, 3)):
             at = chance.below(len(data))
             if chance.happens(50):
@@ -374,7 +374,7 @@ def byte_flips(chance):
 def byte_edits(chance):
     """Presets with one byte taken out or put in."""
     inputs = []
-    for data in small_presets(chance, 200):
+    for data in drawn_presets(chance, 200):
         at = chance.below(len(data))
         if chance.happens(50):
             inputs.append(bytes(data[:at] + data[at + 1:]))
@@ -404,7 +404,7 @@ def random_strings(chance):
 def header_changes(chance):
     """Presets with one or two header bytes changed to small values."""
     inputs = []
-    for data in small_presets(chance, 300):
+    for data in drawn_presets(chance, 300):
         for _ in range(chance.between(1, 2)):
             data[chance.below(5)] = chance.below(16)
         inputs.append(bytes(data))
