@@ -1,4 +1,6 @@
 // Cellular automata on rings: rules, densities, the next ring and the total of a ring. Assumes nothing.
+#![tactic(auto)]
+
 mod density;
 mod making;
 mod pattern;

@@ -1,4 +1,6 @@
 // The bench: labels of rules and densities, the judge and the comparison. Assumes nothing.
+#![tactic(auto)]
+
 mod comparing;
 mod judging;
 mod parts;

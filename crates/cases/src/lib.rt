@@ -1,4 +1,6 @@
 // Worked examples: small cases whose answers are known, run against the crates that they speak of.
+#![tactic(auto)]
+
 #[cfg(test)]
 mod charges;
 #[cfg(test)]

@@ -1,4 +1,6 @@
 // Kinds of charge: what a ring keeps the total of. Assumes nothing.
+#![tactic(auto)]
+
 ghost use Rattle.std.specs.Prelude.{◌≡◌, Decides};
 ghost use Rattle.charge.specs.Groups.{Kind, minus};
 

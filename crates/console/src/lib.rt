@@ -1,4 +1,6 @@
 // The text form of a preset: a page that is written, and a page that is read. Assumes nothing.
+#![tactic(auto)]
+
 mod draft;
 mod encode;
 mod error;

@@ -1,4 +1,6 @@
 // What a refusal is: a stop code and the place that it speaks of. Assumes nothing.
+#![tactic(auto)]
+
 ghost use Rattle.std.specs.Prelude.{◌≡◌, Some};
 ghost use Rattle.fault.specs.Refusals.{code_of, reason_of, sentence};
 

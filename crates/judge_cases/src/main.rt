@@ -1,6 +1,8 @@
 // Reads calls of judge, compare, next_ring and total as lines of numbers, makes them, and prints what they answer and
 // write. The input and the expected output are made by tools/make_judge_cases.py, which has a judge of its own;
 // tools/judge_lines.py says how the lines are written.
+#![tactic(auto)]
+
 mod call;
 mod kind;
 mod numbers;

@@ -2,6 +2,8 @@
 //
 // A preset is read and written over strips that the caller lends. A refusal leaves every strip as it was:
 // everything is checked first, and written after.
+#![tactic(auto)]
+
 mod entry;
 mod field;
 mod header;

@@ -1,5 +1,7 @@
 // Reads presets in hexadecimal, a line each, and says how each one is read. The input and the expected output
 // are made by tools/make_preset_cases.py, which reads presets by code of its own.
+#![tactic(auto)]
+
 ghost use Rattle.std.specs.Prelude.{◌<◌};
 
 use fault::Fault;

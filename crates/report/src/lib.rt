@@ -1,4 +1,6 @@
 // Verdicts on presets as text. Assumes nothing.
+#![tactic(auto)]
+
 mod compare;
 mod comparing;
 mod crossing;

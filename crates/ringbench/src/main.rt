@@ -1,5 +1,7 @@
 // The program: presets shown as text, text encoded as presets, and presets judged and compared. The work is in the
 // crates `console` and `report`.
+#![tactic(auto)]
+
 use console::{encode_page, show_preset};
 use fault::Fault;
 use report::{Line, compare_line, crossings_page, judge_line};
