@@ -2,7 +2,7 @@
 #![tactic(auto)]
 
 ghost use Rattle.std.specs.Prelude.{◌≡◌, Decides};
-ghost use Rattle.charge.specs.Groups.{Kind, minus};
+ghost use Rattle.charge.specs.Groups.{Kind, Equality, minus};
 
 mod both;
 mod channels;
@@ -20,6 +20,9 @@ pub use voices::{LEAST_VOICES, MOST_VOICES, Voices};
 // group with its laws, so an impl proves them, and code above is proved from them alone.
 pub trait Charge: Copy {
     ghost kind: { Kind Self };
+
+    // The test of whether two meanings are equal, for definitions that go by cases on it.
+    ghost equality: { Equality kind.group };
 
     fn zero() -> Self
         ensures { kind.means result ≡ kind.group.zero };
@@ -41,7 +44,7 @@ pub trait Charge: Copy {
 
 // One charge less another.
 pub fn difference<C: Charge>(a: C, b: C) -> C
-    ensures { kind.means result ≡ minus kind.group (kind.means a) (kind.means b) }
+    ensures { C.kind.means result ≡ minus C.kind.group (C.kind.means a) (C.kind.means b) }
 {
     a.plus(b.opposite())
 }
