@@ -7,7 +7,7 @@ use Rattle.automaton.proofs.ring.sum_sites.Goals as goal
 pub loop-i-preserved : goal.loop-i-preserved
 loop-i-preserved g c =
     let K = g.C.Charge.kind in
-    c.plus-sum.ensures ∙ sum_more K.group (site K.group booking_offset (g.D.Density.weights K c.args.density.now) c.args.ring.now) c.loop-i.i _ _ c.loop-i.invariant c.site-charge.ensures
+    c.plus-sum.ensures ∙ sum_more K.group (site K.group booking_offset (g.D.Density.weights K c.args.density.now) c.args.ring.now) c.loop-i.i _ _ c.loop-i.invariant c.site_charge.ensures
 
 pub returns : goal.returns
 returns g c =

@@ -9,14 +9,14 @@ pub unreachable-requires : goal.unreachable-requires
 unreachable-requires g c =
     let K = g.C.Charge.kind in
     let r = g.R.Rule.meaning c.args.rule.now in
-    next_given K (g.D.Density.weights K c.args.density.now) c.args.ring.now c.requires.length.0 c.requires.length.1 r (g.R.Rule.lawful c.args.rule.now) c.requires.alphabet (replicate 23 0) refl c.requires.letters _ c.in-default.ensures.answer
+    next_given K (g.D.Density.weights K c.args.density.now) c.args.ring.now c.requires.length.0 c.requires.length.1 r (g.R.Rule.lawful c.args.rule.now) c.requires.alphabet (replicate 23 0) refl c.requires.letters _ c.in_default.ensures.answer
 
-pub shown-total-requires : goal.shown-total-requires
-shown-total-requires g c =
+pub shown_total-requires : goal.shown_total-requires
+shown_total-requires g c =
     let K = g.C.Charge.kind in
     let r = g.R.Rule.meaning c.args.rule.now in
     let ring = c.args.ring.now in
-    let part = next-part K (g.D.Density.weights K c.args.density.now) ring c.requires.length.0 c.requires.length.1 r (g.R.Rule.lawful c.args.rule.now) c.requires.alphabet (replicate 23 0) refl c.next-ring.new.strip c.requires.letters c.next-ring.ensures.strip in
+    let part = next-part K (g.D.Density.weights K c.args.density.now) ring c.requires.length.0 c.requires.length.1 r (g.R.Rule.lawful c.args.rule.now) c.requires.alphabet (replicate 23 0) refl c.next_ring.new.strip c.requires.letters c.next_ring.ensures.strip in
     let size = ap length part ∙ length-next r ring in
     record {
       length = (omega (arith, size, c.requires.length.0), omega (arith, size, c.requires.length.1));
@@ -28,5 +28,5 @@ returns g c =
     let K = g.C.Charge.kind in
     let r = g.R.Rule.meaning c.args.rule.now in
     let ring = c.args.ring.now in
-    let part = next-part K (g.D.Density.weights K c.args.density.now) ring c.requires.length.0 c.requires.length.1 r (g.R.Rule.lawful c.args.rule.now) c.requires.alphabet (replicate 23 0) refl c.next-ring.new.strip c.requires.letters c.next-ring.ensures.strip in
-    c.shown-total.ensures ∙ ap (total K.group (g.D.Density.weights K c.args.density.now)) part
+    let part = next-part K (g.D.Density.weights K c.args.density.now) ring c.requires.length.0 c.requires.length.1 r (g.R.Rule.lawful c.args.rule.now) c.requires.alphabet (replicate 23 0) refl c.next_ring.new.strip c.requires.letters c.next_ring.ensures.strip in
+    c.shown_total.ensures ∙ ap (total K.group (g.D.Density.weights K c.args.density.now)) part

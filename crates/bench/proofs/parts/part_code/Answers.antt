@@ -6,11 +6,11 @@ use Rattle.bench.proofs.parts.part_code.Goals as goal
 pub pow-requires : goal.pow-requires
 pow-requires c = omega (arith, power_bound c.args.q c.args.after (omega arith) (omega arith))
 
-pub nonzero-div-result : goal.nonzero-div-result
-nonzero-div-result c = omega (arith, power-some c.args.q (omega arith) c.args.after)
+pub nonzero_div-result : goal.nonzero_div-result
+nonzero_div-result c = omega (arith, power-some c.args.q (omega arith) c.args.after)
 
 pub pow-requires-2 : goal.pow-requires-2
 pow-requires-2 c = omega (arith, power_bound c.args.q c.args.count (omega arith) (omega arith))
 
-pub nonzero-rem-result : goal.nonzero-rem-result
-nonzero-rem-result c = omega (arith, power-some c.args.q (omega arith) c.args.count)
+pub nonzero_rem-result : goal.nonzero_rem-result
+nonzero_rem-result c = omega (arith, power-some c.args.q (omega arith) c.args.count)

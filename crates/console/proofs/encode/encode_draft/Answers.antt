@@ -10,13 +10,13 @@ pub returns-in-Err : goal.returns-in-Err
 returns-in-Err c some =
     let d = content c.args.draft.now in
     let out = c.args.out.now in
-    let e = c.in-Err.ensures.answer ∙ ap₂ (λ (ls : List ℕ) (es : List Entry). written (writing d.header ls es out)) c.as-slice.ensures.value c.as-slice-2.ensures.value in
-    draft-refused d out c.requires c.in-ok-check-counts.ensures _ e
+    let e = c.in-Err.ensures.answer ∙ ap₂ (λ (ls : List ℕ) (es : List Entry). written (writing d.header ls es out)) c.as_slice.ensures.value c.as_slice-2.ensures.value in
+    draft-refused d out c.requires c.in_ok-check_counts.ensures _ e
 
 pub returns-in-Ok : goal.returns-in-Ok
 returns-in-Ok c some =
     let d = content c.args.draft.now in
     let out = c.args.out.now in
-    let e = c.in-Ok.ensures.answer ∙ ap₂ (λ (ls : List ℕ) (es : List Entry). written (writing d.header ls es out)) c.as-slice.ensures.value c.as-slice-2.ensures.value in
-    let s = c.in-Ok.ensures.strip ∙ ap₂ (λ (ls : List ℕ) (es : List Entry). strip_after (λ bytes. bytes) out (writing d.header ls es out)) c.as-slice.ensures.value c.as-slice-2.ensures.value in
-    c.copied.ensures some ∙ draft-written d out c.requires c.in-ok-check-counts.ensures c.in-Ok.len c.write-preset.new.out e s
+    let e = c.in-Ok.ensures.answer ∙ ap₂ (λ (ls : List ℕ) (es : List Entry). written (writing d.header ls es out)) c.as_slice.ensures.value c.as_slice-2.ensures.value in
+    let s = c.in-Ok.ensures.strip ∙ ap₂ (λ (ls : List ℕ) (es : List Entry). strip_after (λ bytes. bytes) out (writing d.header ls es out)) c.as_slice.ensures.value c.as_slice-2.ensures.value in
+    c.copied.ensures some ∙ draft-written d out c.requires c.in_ok-check_counts.ensures c.in-Ok.len c.write_preset.new.out e s

@@ -3,17 +3,17 @@ use Rattle.std.specs.Option.{option_map}
 use Rattle.console.proofs.Digits.{signed-minus, negated}
 use Rattle.console.proofs.number.read_signed.Goals as goal
 
-pub returns-in-err-read-number : goal.returns-in-err-read-number
-returns-in-err-read-number c =
+pub returns-in_err-read_number : goal.returns-in_err-read_number
+returns-in_err-read_number c =
     let w = c.args.word.now in
     let some : 1 ≤ length w = omega (arith, ltb-false) in
     let minus : get_or w 0 0 ≡ 45 = omega arith in
-    c.from-residual.ensures ∙ sym (signed-minus w some minus ∙ ap (option_map (λ v. neg_ℤ (pos v))) (sym c.in-err-read-number.ensures.value))
+    c.from-residual.ensures ∙ sym (signed-minus w some minus ∙ ap (option_map (λ v. neg_ℤ (pos v))) (sym c.in_err-read_number.ensures.value))
 
-pub returns-in-ok-read-number : goal.returns-in-ok-read-number
-returns-in-ok-read-number c =
+pub returns-in_ok-read_number : goal.returns-in_ok-read_number
+returns-in_ok-read_number c =
     let w = c.args.word.now in
     let some : 1 ≤ length w = omega (arith, ltb-false) in
     let minus : get_or w 0 0 ≡ 45 = omega arith in
-    ap (λ (z : ℤ). Some z) (negated c.in-ok-read-number.field-0 c.in-ok-read-number.ensures.bound)
-    ∙ sym (signed-minus w some minus ∙ ap (option_map (λ v. neg_ℤ (pos v))) (sym c.in-ok-read-number.ensures.value))
+    ap (λ (z : ℤ). Some z) (negated c.in_ok-read_number.field-0 c.in_ok-read_number.ensures.bound)
+    ∙ sym (signed-minus w some minus ∙ ap (option_map (λ v. neg_ℤ (pos v))) (sym c.in_ok-read_number.ensures.value))

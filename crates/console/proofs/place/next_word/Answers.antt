@@ -3,10 +3,10 @@ use Rattle.std.proofs.lemmas.List.{take_rest}
 use Rattle.console.specs.Words.{next_word}
 use Rattle.console.proofs.Passing.{past-newline, past-blank, at-word, at_end}
 use Rattle.console.proofs.place.next_word.Goals as goal
-use Rattle.console.proofs.place.next_word.Goals.{then-byte-eq10, else-byte-eq10+else-not-is-blank}
+use Rattle.console.proofs.place.next_word.Goals.{then-byte-eq10, else-byte-eq10+else-not-is_blank}
 
-pub overflow-add-passed : goal.overflow-add-passed
-overflow-add-passed c = omega (arith, c.loop-i.invariant.1)
+pub overflow_add-passed : goal.overflow_add-passed
+overflow_add-passed c = omega (arith, c.loop-i.invariant.1)
 
 pub loop-i-preserved : goal.loop-i-preserved
 loop-i-preserved c =
@@ -17,15 +17,15 @@ loop-i-preserved c =
     let inv = c.loop-i.invariant in
     elim c.if-byte-eq10.branch [
       | then-byte-eq10 w ↦ (inv.0 ∙ (past-newline n bs i h w.if-byte-eq10.true ∙ ap (λ (m : ℕ). next_word m (drop (i + 1) bs)) (sym w.passed-is)), omega (arith, inv.1, w.passed-is))
-      | else-byte-eq10+else-not-is-blank w ↦ (inv.0 ∙ (past-blank n bs i h w.if-byte-eq10.false (sym w.if-not-is-blank.ensures) ∙ ap (λ (m : ℕ). next_word m (drop (i + 1) bs)) (sym w.passed-is)), omega (arith, inv.1, w.passed-is))
+      | else-byte-eq10+else-not-is_blank w ↦ (inv.0 ∙ (past-blank n bs i h w.if-byte-eq10.false (sym w.if-not-is_blank.ensures) ∙ ap (λ (m : ℕ). next_word m (drop (i + 1) bs)) (sym w.passed-is)), omega (arith, inv.1, w.passed-is))
     ]
 
-pub returns-then-not-is-blank : goal.returns-then-not-is-blank
-returns-then-not-is-blank c =
+pub returns-then-not-is_blank : goal.returns-then-not-is_blank
+returns-then-not-is_blank c =
     let bs = c.args.place.text.now in
     let i = c.loop-i.i in
     record {
-      place = sym (c.loop-i.invariant.0 ∙ at-word c.loop-i.passed bs i c.loop-i-test.true c.if-byte-eq10.false (sym c.if-not-is-blank.ensures));
+      place = sym (c.loop-i.invariant.0 ∙ at-word c.loop-i.passed bs i c.loop-i-test.true c.if-byte-eq10.false (sym c.if-not-is_blank.ensures));
       fits = omega (arith, c.loop-i.invariant.1, ap length (take_rest bs i), length-drop i bs, c.requires);
     }
 

@@ -2,4 +2,4 @@ use Rattle.console.proofs.ShownBack.{shown_encodes-back}
 use Rattle.console.proofs.show.show_preset.Goals as goal
 
 pub returns : goal.returns
-returns c = record { page = c.show-over.ensures; encodes-back = shown_encodes-back }
+returns c = record { page = c.show_over.ensures; encodes_back = shown_encodes-back }

@@ -3,5 +3,5 @@ use Rattle.std.proofs.lemmas.List.Sums.{prefix_len-le-length}
 use Rattle.console.specs.Words.{belongs}
 use Rattle.console.proofs.words.cut.Goals as goal
 
-pub split-at-requires : goal.split-at-requires
-split-at-requires c = omega (arith, c.front-len.ensures, prefix_len-le-length (belongs c.args.class) c.args.text.now)
+pub split_at-requires : goal.split_at-requires
+split_at-requires c = omega (arith, c.front_len.ensures, prefix_len-le-length (belongs c.args.class) c.args.text.now)

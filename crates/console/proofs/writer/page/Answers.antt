@@ -9,5 +9,5 @@ returns c =
     let kind = c.args.kind in
     let letters = c.args.letters.now in
     let entries = c.args.entries.now in
-    let is : string_bytes c.push-str.new.self ≡ page_text kind c.args.header letters entries c.args.bytes = search rules in
+    let is : string_bytes c.push_str.new.self ≡ page_text kind c.args.header letters entries c.args.bytes = search rules in
     record { text = is; back = λ h. ap parsed is ∙ page_returns kind c.args.header letters entries c.args.bytes h }

@@ -8,8 +8,8 @@ pub loop-v-preserved : goal.loop-v-preserved
 loop-v-preserved g c =
     let K = g.C.Charge.kind in
     let d = g.L.Label.labels K c.args.label.now in
-    let x = c.crossing-at.result in (
-      fill_more K.means (λ v. J K 0 d (word d.q (d.k - 1) v)) c.loop-v.strip c.loop-v.v x (omega arith) c.crossing-at.ensures c.loop-v.invariant.0,
+    let x = c.crossing_at.result in (
+      fill_more K.means (λ v. J K 0 d (word d.q (d.k - 1) v)) c.loop-v.strip c.loop-v.v x (omega arith) c.crossing_at.ensures c.loop-v.invariant.0,
       past_more c.loop-v.strip c.args.strip.now c.loop-v.v x c.loop-v.invariant.1,
     )
 

@@ -6,15 +6,15 @@ use Rattle.criterion.proofs.LabelLaw.{label_law}
 use Rattle.criterion.proofs.Sizes.{some-letters}
 use Rattle.criterion.proofs.search.examine.Goals as goal
 
-pub returns-in-err-check-room : goal.returns-in-err-check-room
-returns-in-err-check-room g c =
+pub returns-in_err-check_room : goal.returns-in_err-check_room
+returns-in_err-check_room g c =
     let K = g.C.Charge.kind in
     let d = g.L.Label.labels K c.args.label.now in
     let weighed = g.L.Label.lawful K c.args.label.now in
     let a = length c.args.crossings.now in
     let b = length c.args.ring.now in
     let p = err_from_is_err_and c.from-residual.result c.from-residual.ensures.1 in
-    let is = room_short K d a b _ c.in-err-check-room.ensures in
+    let is = room_short K d a b _ c.in_err-check_room.ensures in
     rw (p.1, p.2) (record {
       answer = answer_at K d a b _ is _ refl;
       crossings = crossings-at K d a b _ is _ _ (refl, refl);
@@ -22,27 +22,27 @@ returns-in-err-check-room g c =
       law = label_law K 0 d weighed (some-letters d weighed);
     })
 
-pub first-failing-requires : goal.first-failing-requires
-first-failing-requires g c =
+pub first_failing-requires : goal.first_failing-requires
+first_failing-requires g c =
     let K = g.C.Charge.kind in
     let d = g.L.Label.labels K c.args.label.now in
-    let room = room_enough K d (length c.args.crossings.now) (length c.args.ring.now) c.in-ok-check-room.ensures in
+    let room = room_enough K d (length c.args.crossings.now) (length c.args.ring.now) c.in_ok-check_room.ensures in
     record {
-      room = omega (arith, room.0, c.fill-crossings.auto.strip);
-      filled = front_filled K d c.args.crossings.now c.fill-crossings.new.strip c.fill-crossings.ensures;
+      room = omega (arith, room.0, c.fill_crossings.auto.strip);
+      filled = front_filled K d c.args.crossings.now c.fill_crossings.new.strip c.fill_crossings.ensures;
     }
 
-pub returns-in-default : goal.returns-in-default
-returns-in-default g c =
+pub returns-in_default : goal.returns-in_default
+returns-in_default g c =
     let K = g.C.Charge.kind in
     let d = g.L.Label.labels K c.args.label.now in
     let weighed = g.L.Label.lawful K c.args.label.now in
     let a = length c.args.crossings.now in
     let b = length c.args.ring.now in
-    let is = examined-is K d a b c.in-ok-check-room.ensures None c.in-default.ensures in
+    let is = examined-is K d a b c.in_ok-check_room.ensures None c.in_default.ensures in
     record {
       answer = answer_at K d a b _ is _ refl;
-      crossings = crossings-at K d a b _ is _ _ c.fill-crossings.ensures;
+      crossings = crossings-at K d a b _ is _ _ c.fill_crossings.ensures;
       ring = ring-at K d a b _ is _ _ refl;
       law = label_law K 0 d weighed (some-letters d weighed);
     }
@@ -54,11 +54,11 @@ returns g c =
     let weighed = g.L.Label.lawful K c.args.label.now in
     let a = length c.args.crossings.now in
     let b = length c.args.ring.now in
-    let is = examined-is K d a b c.in-ok-check-room.ensures (Some c.in-Some.word) c.in-Some.ensures in
-    let written = c.in-ok-len.ensures in
+    let is = examined-is K d a b c.in_ok-check_room.ensures (Some c.in-Some.word) c.in-Some.ensures in
+    let written = c.in_ok-len.ensures in
     record {
-      answer = answer_at K d a b _ is _ (len-at c.in-Some.word c.in-ok-len.len _ written.answer);
-      crossings = crossings-at K d a b _ is _ _ c.fill-crossings.ensures;
+      answer = answer_at K d a b _ is _ (len-at c.in-Some.word c.in_ok-len.len _ written.answer);
+      crossings = crossings-at K d a b _ is _ _ c.fill_crossings.ensures;
       ring = ring-at K d a b _ is _ _ written.strip;
       law = label_law K 0 d weighed (some-letters d weighed);
     }

@@ -3,8 +3,8 @@ use Rattle.criterion.proofs.Sizes.{heads-few}
 use Rattle.criterion.proofs.Failing.{search_more, search-stop, search_end}
 use Rattle.criterion.proofs.search.first_failing.Goals as goal
 
-pub code-of-code-requires : goal.code-of-code-requires
-code-of-code-requires g c =
+pub code_of-code-requires : goal.code_of-code-requires
+code_of-code-requires g c =
     let K = g.C.Charge.kind in
     let d = g.L.Label.labels K c.args.label.now in
     let weighed = g.L.Label.lawful K c.args.label.now in
@@ -15,8 +15,8 @@ loop-last-preserved g c =
     let K = g.C.Charge.kind in
     let label = c.args.label.now in
     search_more K (g.L.Label.labels K label) (g.L.Label.lawful K label)
-    c.head-count-heads.result c.q-q.result c.loop-head.head c.loop-last.last c.code-of-code.result c.fails.result
-    c.head-count-heads.ensures c.q-q.ensures c.code-of-code.ensures.is c.code-of-code.ensures.below c.loop-last.invariant c.fails.ensures
+    c.head_count-heads.result c.q-q.result c.loop-head.head c.loop-last.last c.code_of-code.result c.fails.result
+    c.head_count-heads.ensures c.q-q.ensures c.code_of-code.ensures.is c.code_of-code.ensures.below c.loop-last.invariant c.fails.ensures
     c.if-fails.false
 
 pub returns-then-fails : goal.returns-then-fails
@@ -24,8 +24,8 @@ returns-then-fails g c =
     let K = g.C.Charge.kind in
     let label = c.args.label.now in
     search-stop K (g.L.Label.labels K label) (g.L.Label.lawful K label)
-    c.head-count-heads.result c.q-q.result c.loop-head.head c.loop-last.last c.code-of-code.result c.fails.result
-    c.head-count-heads.ensures c.q-q.ensures c.code-of-code.ensures.is c.code-of-code.ensures.below c.loop-last.invariant c.fails.ensures
+    c.head_count-heads.result c.q-q.result c.loop-head.head c.loop-last.last c.code_of-code.result c.fails.result
+    c.head_count-heads.ensures c.q-q.ensures c.code_of-code.ensures.is c.code_of-code.ensures.below c.loop-last.invariant c.fails.ensures
     c.if-fails.true
 
 pub returns-after-loop-head : goal.returns-after-loop-head

@@ -6,18 +6,18 @@ use Rattle.preset.proofs.header.read_head.Goals as goal
 pub returns : goal.returns
 returns c =
     let whole = length c.args.input.now in
-    let q = c.in-ok-q.q in
-    let n = c.in-ok-n.n in
-    let k = c.in-ok-k.k in
-    let eq = c.in-ok-q.ensures in
-    let en = c.in-ok-n.ensures in
-    let ek = c.in-ok-k.ensures in
-    let few : few_words q (n + k - 1) ≡ true = sym c.if-not-few-words.ensures in
+    let q = c.in_ok-q.q in
+    let n = c.in_ok-n.n in
+    let k = c.in_ok-k.k in
+    let eq = c.in_ok-q.ensures in
+    let en = c.in_ok-n.ensures in
+    let ek = c.in_ok-k.ensures in
+    let few : few_words q (n + k - 1) ≡ true = sym c.if-not-few_words.ensures in
     let qs = eq.bounds in
     let ns = en.bounds in
     let ks = ek.bounds in
     record {
-      answer = head_done whole c.args.input.now c.in-ok-kind.rest.now c.in-ok-q.rest.now c.in-ok-n.rest.now c.in-ok-l.rest.now c.in-ok-k.rest.now c.in-ok-kind.kind c.number.result q n c.in-ok-l.l k c.in-ok-kind.ensures.answer eq.answer en.answer c.in-ok-l.ensures.answer ek.answer few c.number.ensures;
-      rest = omega (arith, c.in-ok-kind.ensures.rest, eq.rest, en.rest, c.in-ok-l.ensures.rest, ek.rest);
+      answer = head_done whole c.args.input.now c.in_ok-kind.rest.now c.in_ok-q.rest.now c.in_ok-n.rest.now c.in_ok-l.rest.now c.in_ok-k.rest.now c.in_ok-kind.kind c.number.result q n c.in_ok-l.l k c.in_ok-kind.ensures.answer eq.answer en.answer c.in_ok-l.ensures.answer ek.answer few c.number.ensures;
+      rest = omega (arith, c.in_ok-kind.ensures.rest, eq.rest, en.rest, c.in_ok-l.ensures.rest, ek.rest);
       lawful = record { alphabet = omega arith; window = omega arith; width = omega arith; letter_count = few-part q (n + k - 1) n (omega arith) (omega arith) few; entry_count = few-part q (n + k - 1) k (omega arith) (omega arith) few };
     }

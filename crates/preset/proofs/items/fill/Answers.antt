@@ -3,16 +3,16 @@ use Rattle.preset.specs.Answers.{many}
 use Rattle.preset.proofs.Turns.{ok-first, ok_more, ahead_more, ahead_all, past_more}
 use Rattle.preset.proofs.items.fill.Goals as goal
 
-pub read-there-item-requires : goal.read-there-item-requires
-read-there-item-requires g c =
+pub read_there-item-requires : goal.read_there-item-requires
+read_there-item-requires g c =
     let read = g.T-as-Item.format.reads c.args.shape c.args.whole in
     record { within = omega arith; there = ok-first read c.args.count c.loop-i.i c.loop-i.rest.now c.loop-i-test.true c.loop-i.invariant.2 }
 
 pub loop-i-preserved : goal.loop-i-preserved
 loop-i-preserved g c =
     let read = g.T-as-Item.format.reads c.args.shape c.args.whole in
-    let r = c.read-there-item.result in
-    let e = c.read-there-item.ensures in
+    let r = c.read_there-item.result in
+    let e = c.read_there-item.ensures in
     let k = c.loop-i.invariant in
     let all = many read c.args.count c.args.input.now in (
       omega arith,

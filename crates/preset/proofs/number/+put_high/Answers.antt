@@ -10,16 +10,16 @@ returns-then-high-eq0 t c =
     let o = over_none c.args.out.now c.args.at in
     record { end = omega (arith, ap length e); strip = cc }
 
-pub put-high-next-requires : goal.put-high-next-requires
-put-high-next-requires t c =
+pub put_high-next-requires : goal.put_high-next-requires
+put_high-next-requires t c =
     let e = length_high_step c.args.high (omega arith) in
     (omega arith, omega arith)
 
 pub bounds-out-next : goal.bounds-out-next
 bounds-out-next t c = omega (arith, length_high_step c.args.high (omega arith))
 
-pub overflow-add-result : goal.overflow-add-result
-overflow-add-result t c = omega (arith, length_high_step c.args.high (omega arith))
+pub overflow_add-result : goal.overflow_add-result
+overflow_add-result t c = omega (arith, length_high_step c.args.high (omega arith))
 
 pub returns : goal.returns
 returns t c =

@@ -1,4 +1,4 @@
 use Rattle.preset.proofs.number.+put_high.Given as goal
 
-abbrev pub decreases-put-high : goal.decreases-put-high
-decreases-put-high l = l.high
+abbrev pub decreases-put_high : goal.decreases-put_high
+decreases-put_high l = l.high

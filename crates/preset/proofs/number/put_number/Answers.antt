@@ -4,19 +4,19 @@ use Rattle.preset.proofs.Spelling.{length-spell}
 use Rattle.preset.proofs.Strips.{over_more}
 use Rattle.preset.proofs.number.put_number.Goals as goal
 
-pub put-high-last-requires : goal.put-high-last-requires
-put-high-last-requires c = omega (arith, length-spell c.args.value)
+pub put_high-last-requires : goal.put_high-last-requires
+put_high-last-requires c = omega (arith, length-spell c.args.value)
 
 pub bounds-out-last : goal.bounds-out-last
 bounds-out-last c = omega (arith, length-spell c.args.value)
 
-pub overflow-add-result : goal.overflow-add-result
-overflow-add-result c = omega (arith, length-spell c.args.value)
+pub overflow_add-result : goal.overflow_add-result
+overflow_add-result c = omega (arith, length-spell c.args.value)
 
 pub returns : goal.returns
 returns c =
     let l = length-spell c.args.value in
     let o = over_more c.args.out.now c.args.at (high_bytes (c.args.value / 128)) (c.args.value % 128) (omega arith) in
-    let e = c.put-high-last.ensures.end in
-    let s = c.put-high-last.ensures.strip in
+    let e = c.put_high-last.ensures.end in
+    let s = c.put_high-last.ensures.strip in
     record { end = omega arith; strip = cc }

@@ -5,27 +5,27 @@ use Rattle.preset.proofs.NumberLaws.{refusals}
 use Rattle.preset.proofs.Reading.{number-leading, number-long, tail_shorter, turn-cut, turn_more, turn-large, turn_last}
 use Rattle.preset.proofs.number.read_number.Goals as goal
 
-pub returns-in-default : goal.returns-in-default
-returns-in-default c = record { answer = sym (ap (number c.args.place) (nil_from_length c.args.input.now (omega (arith, ltb-true)))); rest = tt; refusals = refusals }
+pub returns-in_default : goal.returns-in_default
+returns-in_default c = record { answer = sym (ap (number c.args.place) (nil_from_length c.args.input.now (omega (arith, ltb-true)))); rest = tt; refusals = refusals }
 
 pub returns-then-first : goal.returns-then-first
 returns-then-first c = record { answer = sym (number-leading c.args.place c.args.input.now c.if-first.true); rest = tt; refusals = refusals }
 
-pub returns-in-default-default : goal.returns-in-default-default
-returns-in-default-default c =
+pub returns-in_default-default : goal.returns-in_default-default
+returns-in_default-default c =
     let inv = c.loop-i.invariant in
     record { answer = turn-cut c.args.input.now c.loop-i.rest.now c.loop-i.i c.loop-i.high inv.0 inv.2 inv.3 c.args.place c.if-first.false c.loop-i-test.true (omega (arith, ltb-true)); rest = tt; refusals = refusals }
 
-pub returns-then-value-gt-MOST-NUMBER : goal.returns-then-value-gt-MOST-NUMBER
-returns-then-value-gt-MOST-NUMBER c =
+pub returns-then-value-gt-MOST_NUMBER : goal.returns-then-value-gt-MOST_NUMBER
+returns-then-value-gt-MOST_NUMBER c =
     let inv = c.loop-i.invariant in
-    record { answer = turn-large c.args.input.now c.loop-i.rest.now c.loop-i.i c.loop-i.high inv.0 inv.2 inv.3 (omega (arith, ltb-false)) c.args.place (ltb-true (get_or c.loop-i.rest.now 0 0) 128 (sym c.if-ends-number.ensures)) c.if-value-gt-MOST-NUMBER.true; rest = tt; refusals = refusals }
+    record { answer = turn-large c.args.input.now c.loop-i.rest.now c.loop-i.i c.loop-i.high inv.0 inv.2 inv.3 (omega (arith, ltb-false)) c.args.place (ltb-true (get_or c.loop-i.rest.now 0 0) 128 (sym c.if-ends_number.ensures)) c.if-value-gt-MOST_NUMBER.true; rest = tt; refusals = refusals }
 
-pub returns-then-ends-number : goal.returns-then-ends-number
-returns-then-ends-number c =
+pub returns-then-ends_number : goal.returns-then-ends_number
+returns-then-ends_number c =
     let inv = c.loop-i.invariant in
     record {
-      answer = turn_last c.args.input.now c.loop-i.rest.now c.loop-i.i c.loop-i.high inv.0 inv.2 inv.3 (omega (arith, ltb-false)) c.args.place c.if-first.false c.loop-i-test.true (ltb-true (get_or c.loop-i.rest.now 0 0) 128 (sym c.if-ends-number.ensures)) c.if-value-gt-MOST-NUMBER.false;
+      answer = turn_last c.args.input.now c.loop-i.rest.now c.loop-i.i c.loop-i.high inv.0 inv.2 inv.3 (omega (arith, ltb-false)) c.args.place c.if-first.false c.loop-i-test.true (ltb-true (get_or c.loop-i.rest.now 0 0) 128 (sym c.if-ends_number.ensures)) c.if-value-gt-MOST_NUMBER.false;
       rest = tail_shorter c.args.input.now c.loop-i.rest.now c.loop-i.i inv.0 (omega (arith, ltb-false));
       refusals = refusals;
     }
@@ -33,7 +33,7 @@ returns-then-ends-number c =
 pub loop-i-preserved : goal.loop-i-preserved
 loop-i-preserved c =
     let inv = c.loop-i.invariant in
-    turn_more c.args.input.now c.loop-i.rest.now c.loop-i.i c.loop-i.high inv.0 inv.2 inv.3 (omega (arith, ltb-false)) inv.4 (ltb-false (get_or c.loop-i.rest.now 0 0) 128 (sym c.if-ends-number.ensures))
+    turn_more c.args.input.now c.loop-i.rest.now c.loop-i.i c.loop-i.high inv.0 inv.2 inv.3 (omega (arith, ltb-false)) inv.4 (ltb-false (get_or c.loop-i.rest.now 0 0) 128 (sym c.if-ends_number.ensures))
 
 pub returns : goal.returns
 returns c = record { answer = sym (number-long c.args.place c.args.input.now (omega arith)); rest = tt; refusals = refusals }

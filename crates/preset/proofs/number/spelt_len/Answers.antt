@@ -6,8 +6,8 @@ use Rattle.preset.proofs.number.spelt_len.Goals as goal
 pub loop-high-init : goal.loop-high-init
 loop-high-init c = omega (arith, length-spell c.args.value)
 
-pub overflow-add-count : goal.overflow-add-count
-overflow-add-count c = omega (arith, length-spell_le c.args.value (omega arith))
+pub overflow_add-count : goal.overflow_add-count
+overflow_add-count c = omega (arith, length-spell_le c.args.value (omega arith))
 
 pub loop-high-preserved : goal.loop-high-preserved
 loop-high-preserved c = omega (arith, length_high_step c.loop-high.high (omega arith))

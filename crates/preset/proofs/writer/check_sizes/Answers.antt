@@ -6,7 +6,7 @@ use Rattle.preset.proofs.writer.check_sizes.Goals as goal
 pub returns : goal.returns
 returns c =
     let h = c.args.header in
-    let few : few_words h.q (h.n + h.k - 1) ≡ true = sym c.if-not-few-words.ensures in
+    let few : few_words h.q (h.n + h.k - 1) ≡ true = sym c.if-not-few_words.ensures in
     record {
       answer = sym (sizes_pass h (omega arith) (omega arith) (omega arith) (omega arith) (omega arith) (omega arith) (omega arith) few);
       lawful = record {

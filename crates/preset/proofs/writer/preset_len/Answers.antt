@@ -14,6 +14,6 @@ returns c =
     omega (
       arith,
       length_three {X = ℕ} [] (sent spell (header_numbers h.header)) (sent spell c.args.letters.now) (sent (entry_bytes h.kind) entries),
-      ap (λ (xs : List ℕ). length (sent spell xs)) c.header-numbers-numbers.ensures,
+      ap (λ (xs : List ℕ). length (sent spell xs)) c.header_numbers-numbers.ensures,
       ap (λ (k : ChargeKind). length (sent (entry_bytes k) entries)) c.shape-shape.ensures.0,
     )

@@ -20,17 +20,17 @@ numbers-length xs ys e = ap (λ (zs : List ℕ). length (sent spell zs)) e
 entries-length : (j k : ChargeKind) (entries : List Entry) → j ≡ k → length (sent (entry_bytes j) entries) ≡ length (sent (entry_bytes k) entries)
 entries-length j k entries e = ap (λ (i : ChargeKind). length (sent (entry_bytes i) entries)) e
 
-pub put-all-after-header-requires : goal.put-all-after-header-requires
-put-all-after-header-requires c =
-    omega (arith, parts c.args.head c.args.letters.now c.args.entries.now, numbers-length _ _ c.header-numbers-numbers.ensures, c.requires.room)
+pub put_all-after_header-requires : goal.put_all-after_header-requires
+put_all-after_header-requires c =
+    omega (arith, parts c.args.head c.args.letters.now c.args.entries.now, numbers-length _ _ c.header_numbers-numbers.ensures, c.requires.room)
 
-pub put-all-after-letters-requires : goal.put-all-after-letters-requires
-put-all-after-letters-requires c =
-    omega (arith, parts c.args.head c.args.letters.now c.args.entries.now, numbers-length _ _ c.header-numbers-numbers.ensures, c.requires.room)
+pub put_all-after_letters-requires : goal.put_all-after_letters-requires
+put_all-after_letters-requires c =
+    omega (arith, parts c.args.head c.args.letters.now c.args.entries.now, numbers-length _ _ c.header_numbers-numbers.ensures, c.requires.room)
 
-pub put-all-requires : goal.put-all-requires
-put-all-requires c =
-    omega (arith, parts c.args.head c.args.letters.now c.args.entries.now, numbers-length _ _ c.header-numbers-numbers.ensures, entries-length _ _ c.args.entries.now c.shape-shape.ensures.0, c.requires.room)
+pub put_all-requires : goal.put_all-requires
+put_all-requires c =
+    omega (arith, parts c.args.head c.args.letters.now c.args.entries.now, numbers-length _ _ c.header_numbers-numbers.ensures, entries-length _ _ c.args.entries.now c.shape-shape.ensures.0, c.requires.room)
 
 pub returns : goal.returns
 returns c =
@@ -38,14 +38,14 @@ returns c =
     let out = c.args.out.now in
     let letters = c.args.letters.now in
     let entries = c.args.entries.now in
-    let numbers = numbers-length _ _ c.header-numbers-numbers.ensures in
+    let numbers = numbers-length _ _ c.header_numbers-numbers.ensures in
     let kinds = entries-length _ _ entries c.shape-shape.ensures.0 in
     record {
       end = omega (arith, parts h letters entries, numbers, kinds);
       strip = over_three out (sent spell (header_numbers h.header)) (sent spell letters) (sent (entry_bytes h.kind) entries)
-          c.put-all-after-header.new.out c.put-all-after-letters.new.out c.put-all.new.out c.put-all-after-header.result c.put-all-after-letters.result
-          (omega (arith, numbers)) c.put-all-after-letters.ensures.end
-          (c.put-all-after-header.ensures.strip ∙ ap (λ (xs : List ℕ). over out 0 (sent spell xs)) c.header-numbers-numbers.ensures)
-          c.put-all-after-letters.ensures.strip
-          (c.put-all.ensures.strip ∙ ap (λ (i : ChargeKind). over c.put-all-after-letters.new.out c.put-all-after-letters.result (sent (entry_bytes i) entries)) c.shape-shape.ensures.0);
+          c.put_all-after_header.new.out c.put_all-after_letters.new.out c.put_all.new.out c.put_all-after_header.result c.put_all-after_letters.result
+          (omega (arith, numbers)) c.put_all-after_letters.ensures.end
+          (c.put_all-after_header.ensures.strip ∙ ap (λ (xs : List ℕ). over out 0 (sent spell xs)) c.header_numbers-numbers.ensures)
+          c.put_all-after_letters.ensures.strip
+          (c.put_all.ensures.strip ∙ ap (λ (i : ChargeKind). over c.put_all-after_letters.new.out c.put_all-after_letters.result (sent (entry_bytes i) entries)) c.shape-shape.ensures.0);
     }

@@ -7,13 +7,13 @@ use Rattle.report.specs.Reports.{judge_shape}
 use Rattle.report.proofs.Verdicts.{finds_fit, told}
 use Rattle.report.proofs.verdict.judge_on.Goals as goal
 
-pub verdict-line-requires : goal.verdict-line-requires
-verdict-line-requires g c = record {
-  letters = subst (λ (s : Shape). 1 ≤ s.q) (sym c.judge-shape-shape.ensures) c.requires.alphabet;
-  ring = finds_fit g.C.Charge.kind g.C.Sent.sending _ _ _ _ _ _ _ _ _ _ c.judge-tables-found.ensures c.sent_found.result c.sent_found.ensures;
+pub verdict_line-requires : goal.verdict_line-requires
+verdict_line-requires g c = record {
+  letters = subst (λ (s : Shape). 1 ≤ s.q) (sym c.judge_shape-shape.ensures) c.requires.alphabet;
+  ring = finds_fit g.C.Charge.kind g.C.Sent.sending _ _ _ _ _ _ _ _ _ _ c.judge_tables-found.ensures c.sent_found.result c.sent_found.ensures;
 }
 
 pub returns : goal.returns
 returns g c =
-    let same : c.judge-shape-shape.result ≡ judge_shape g.C.Sent.sending.named c.args.preset.header = c.judge-shape-shape.ensures ∙ ap (λ (k : ChargeKind). judge_shape k c.args.preset.header) c.kind.ensures in
-    IfOk-weaker c.verdict-line.result _ _ (told g.C.Charge.kind g.C.Sent.sending _ _ _ _ _ _ _ _ _ _ c.judge-tables-found.ensures c.sent_found.result c.sent_found.ensures Judge c.args.name.now c.judge-shape-shape.result (judge_shape g.C.Sent.sending.named c.args.preset.header) same) c.verdict-line.ensures
+    let same : c.judge_shape-shape.result ≡ judge_shape g.C.Sent.sending.named c.args.preset.header = c.judge_shape-shape.ensures ∙ ap (λ (k : ChargeKind). judge_shape k c.args.preset.header) c.kind.ensures in
+    IfOk-weaker c.verdict_line.result _ _ (told g.C.Charge.kind g.C.Sent.sending _ _ _ _ _ _ _ _ _ _ c.judge_tables-found.ensures c.sent_found.result c.sent_found.ensures Judge c.args.name.now c.judge_shape-shape.result (judge_shape g.C.Sent.sending.named c.args.preset.header) same) c.verdict_line.ensures

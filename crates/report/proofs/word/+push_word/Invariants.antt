@@ -1,4 +1,4 @@
 use Rattle.report.proofs.word.+push_word.Given as goal
 
-abbrev pub decreases-push-word : goal.decreases-push-word
-decreases-push-word l = l.m
+abbrev pub decreases-push_word : goal.decreases-push_word
+decreases-push_word l = l.m

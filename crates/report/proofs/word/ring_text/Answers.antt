@@ -4,7 +4,7 @@ use Rattle.report.proofs.word.ring_text.Goals as goal
 
 pub loop-letter-preserved : goal.loop-letter-preserved
 loop-letter-preserved c =
-    c.in-ok-push-letter.ensures
+    c.in_ok-push_letter.ensures
     ∙ (ap (λ (t : List ℕ). t ++ decimal (get_or c.args.ring.now c.loop-letter.letter-index 0)) c.loop-letter.invariant
     ∙ sym (joined-take decimal c.args.ring.now c.loop-letter.letter-index 0 c.loop-letter-test.true))
 

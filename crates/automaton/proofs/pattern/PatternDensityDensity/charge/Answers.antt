@@ -5,4 +5,4 @@ use Rattle.automaton.proofs.pattern.PatternDensityDensity.charge.Goals as goal
 pub returns : goal.returns
 returns g c =
     let t = c.args.self.now in
-    c.charge-on.ensures ∙ sym (pattern-at g.C.Charge.kind t.q t.k t.pattern t.charge c.args.code t.within)
+    c.charge_on.ensures ∙ sym (pattern-at g.C.Charge.kind t.q t.k t.pattern t.charge c.args.code t.within)

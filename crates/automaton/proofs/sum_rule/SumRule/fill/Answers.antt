@@ -5,21 +5,21 @@ use Rattle.automaton.proofs.Passes.{rule-counted, rule_joined, taken-letters, ta
 use Rattle.automaton.proofs.Lookups.{sum_rule-front}
 use Rattle.automaton.proofs.sum_rule.SumRule.fill.Goals as goal
 
-pub invariant-of-self : goal.invariant-of-self
-invariant-of-self c =
+pub invariant_of-self : goal.invariant_of-self
+invariant_of-self c =
     let q = c.args.q in
     let n = c.args.n in
-    let counts = rule-counted q n c.args.l _ (sym c.in-ok-words.ensures.answer) in
-    let letters = taken-letters q (sum_count q n) c.args.letters.now _ (sym c.in-ok-letters.ensures) in
-    (c.in-ok-words.ensures.sizes, (counts.0, (counts.1, (letters.1, tt))))
+    let counts = rule-counted q n c.args.l _ (sym c.in_ok-words.ensures.answer) in
+    let letters = taken-letters q (sum_count q n) c.args.letters.now _ (sym c.in_ok-letters.ensures) in
+    (c.in_ok-words.ensures.sizes, (counts.0, (counts.1, (letters.1, tt))))
 
 pub returns : goal.returns
 returns c =
     let q = c.args.q in
     let n = c.args.n in
-    let words = sym c.in-ok-words.ensures.answer in
-    let letters = sym c.in-ok-letters.ensures in
-    let sizes = c.in-ok-words.ensures.sizes in
+    let words = sym c.in_ok-words.ensures.answer in
+    let letters = sym c.in_ok-letters.ensures in
+    let sizes = c.in_ok-words.ensures.sizes in
     record {
       answer = sym (ap done (rule_joined q n c.args.l _ (sum_count q n) c.args.letters.now _ words letters));
       rule = sum_rule-front q n c.args.l c.args.letters.now _ (omega (arith, sizes.0)) (taken-front _ BadLetter _ c.args.letters.now _ letters).1;

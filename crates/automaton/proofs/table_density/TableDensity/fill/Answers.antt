@@ -8,7 +8,7 @@ use Rattle.automaton.proofs.table_density.TableDensity.fill.Goals as goal
 pub returns : goal.returns
 returns g c =
     let K = g.C.Charge.kind in
-    let e = sym c.in-ok-entries.ensures in
+    let e = sym c.in_ok-entries.ensures in
     let p = density_passes K c.args.q c.args.k c.args.entries.now _ e in
     record {
       answer = sym (ap done e);

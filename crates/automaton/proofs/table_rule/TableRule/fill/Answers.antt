@@ -5,17 +5,17 @@ use Rattle.automaton.proofs.Passes.{rule_passes, taken-letters, taken-front}
 use Rattle.automaton.proofs.Lookups.{table_rule-front}
 use Rattle.automaton.proofs.table_rule.TableRule.fill.Goals as goal
 
-pub invariant-of-self : goal.invariant-of-self
-invariant-of-self c =
+pub invariant_of-self : goal.invariant_of-self
+invariant_of-self c =
     let q = c.args.q in
-    let p = rule_passes q c.args.n c.args.l (q ^ c.args.n) c.args.letters.now _ (sym c.in-ok-letters.ensures) in
+    let p = rule_passes q c.args.n c.args.l (q ^ c.args.n) c.args.letters.now _ (sym c.in_ok-letters.ensures) in
     let t = taken-letters q (q ^ c.args.n) c.args.letters.now _ p.2 in
     (p.0, (p.1, (t.1, (omega (arith, t.0), tt))))
 
 pub returns : goal.returns
 returns c =
     let q = c.args.q in
-    let e = sym c.in-ok-letters.ensures in
+    let e = sym c.in_ok-letters.ensures in
     let p = rule_passes q c.args.n c.args.l (q ^ c.args.n) c.args.letters.now _ e in
     record {
       answer = sym (ap done e);

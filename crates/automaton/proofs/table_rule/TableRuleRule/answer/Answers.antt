@@ -5,4 +5,4 @@ use Rattle.automaton.proofs.table_rule.TableRuleRule.answer.Goals as goal
 pub returns : goal.returns
 returns c =
     let t = c.args.self.now in
-    c.letter-at.ensures ∙ sym (table_at 0 _ t.letters.now c.args.code t.exact)
+    c.letter_at.ensures ∙ sym (table_at 0 _ t.letters.now c.args.code t.exact)

@@ -22,4 +22,4 @@ returns g c =
     let rule = s.rule in
     let counted = s.counted in
     rule-entry K.group (sized_rule s (g.R.Rule.meaning t.rule.now)) (sized_density s (g.D.Density.weights K t.density.now)) c.args.code _ _ _ _ _ (omega arith) refl (omega arith) (omega arith)
-    c.next-code.ensures c.part-code.ensures c.charge-later.ensures c.charge-now.ensures c.difference.ensures
+    c.next_code.ensures c.part_code.ensures c.charge-later.ensures c.charge-now.ensures c.difference.ensures

@@ -22,4 +22,4 @@ returns g c =
     let label = s.label in
     let counted = s.counted in
     two-entry K.group (first_sized s (g.D.Density.weights K t.first.now)) (second_sized s (g.E.Density.weights K t.second.now)) c.args.code s.m _ _ _ _ _ (omega arith) refl s.larger (omega arith)
-    refl refl c.front-charge-weighed.ensures c.front-charge.ensures c.difference.ensures
+    refl refl c.front_charge-weighed.ensures c.front_charge.ensures c.difference.ensures
