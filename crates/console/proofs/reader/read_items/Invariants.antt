@@ -6,7 +6,7 @@ use Rattle.console.proofs.reader.read_items.Given as goal
 
 abbrev pub invariant-loop-word : goal.invariant-loop-word
 invariant-loop-word g l =
-    let F = g.T-as-Item.form in
+    let F = g.T.Item.form in
     each (F.reads l.kind) F.expected l.line (words l.words) ≡ ahead (vec_items l.items) (each (F.reads l.kind) F.expected l.line (words l.rest))
 
 abbrev pub decreases-loop-word : goal.decreases-loop-word

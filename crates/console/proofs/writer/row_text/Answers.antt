@@ -4,11 +4,11 @@ use Rattle.console.proofs.writer.row_text.Goals as goal
 
 pub loop-item-preserved : goal.loop-item-preserved
 loop-item-preserved g c =
-    let shows = g.T-as-Item.form.shows c.args.kind in
+    let shows = g.T.Item.form.shows c.args.kind in
     let word = c.as_str.ensures.value ∙ c.in_ok-word.ensures in
     c.in_ok-push_word.ensures
     ∙ (ap₂ (λ (a b : List ℕ). a ++ (32 ∷ b)) c.loop-item.invariant word
     ∙ sym (spaced_more shows c.args.items.now c.loop-item.item-index c.item-item.result c.loop-item-test.true c.item-item.is))
 
 pub returns : goal.returns
-returns g c = c.loop-item.invariant ∙ spaced_all (g.T-as-Item.form.shows c.args.kind) c.args.items.now c.loop-item.item-index c.loop-item-test.false
+returns g c = c.loop-item.invariant ∙ spaced_all (g.T.Item.form.shows c.args.kind) c.args.items.now c.loop-item.item-index c.loop-item-test.false

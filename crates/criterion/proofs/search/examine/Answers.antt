@@ -13,7 +13,7 @@ returns-in_err-check_room g c =
     let weighed = g.L.Label.lawful K c.args.label.now in
     let a = length c.args.crossings.now in
     let b = length c.args.ring.now in
-    let p = err_from_is_err_and c.from-residual.result c.from-residual.ensures.1 in
+    let p = err_from_is_err_and c.from_residual.result c.from_residual.ensures.1 in
     let is = room_short K d a b _ c.in_err-check_room.ensures in
     rw (p.1, p.2) (record {
       answer = answer_at K d a b _ is _ refl;

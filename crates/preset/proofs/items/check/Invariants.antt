@@ -4,5 +4,5 @@ use Rattle.preset.proofs.items.check.Given as goal
 
 abbrev pub invariant-loop-i : goal.invariant-loop-i
 invariant-loop-i g l =
-    let F = g.T-as-Item.format in
+    let F = g.T.Item.format in
     each_fits (F.fits l.shape) F.stop 0 l.items ≡ each_fits (F.fits l.shape) F.stop l.i (drop l.i l.items)

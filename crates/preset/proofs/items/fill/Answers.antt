@@ -5,12 +5,12 @@ use Rattle.preset.proofs.items.fill.Goals as goal
 
 pub read_there-item-requires : goal.read_there-item-requires
 read_there-item-requires g c =
-    let read = g.T-as-Item.format.reads c.args.shape c.args.whole in
+    let read = g.T.Item.format.reads c.args.shape c.args.whole in
     record { within = omega arith; there = ok-first read c.args.count c.loop-i.i c.loop-i.rest.now c.loop-i-test.true c.loop-i.invariant.2 }
 
 pub loop-i-preserved : goal.loop-i-preserved
 loop-i-preserved g c =
-    let read = g.T-as-Item.format.reads c.args.shape c.args.whole in
+    let read = g.T.Item.format.reads c.args.shape c.args.whole in
     let r = c.read_there-item.result in
     let e = c.read_there-item.ensures in
     let k = c.loop-i.invariant in
@@ -23,6 +23,6 @@ loop-i-preserved g c =
 
 pub returns : goal.returns
 returns g c =
-    let read = g.T-as-Item.format.reads c.args.shape c.args.whole in
+    let read = g.T.Item.format.reads c.args.shape c.args.whole in
     let k = c.loop-i.invariant in
     ahead_all read c.args.count c.loop-i.i c.loop-i.rest.now c.loop-i.strip c.args.strip.now (many read c.args.count c.args.input.now) (omega arith) (omega arith) k.3 k.1

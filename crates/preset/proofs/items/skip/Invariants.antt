@@ -4,6 +4,6 @@ use Rattle.preset.proofs.items.skip.Given as goal
 
 abbrev pub invariant-loop-i : goal.invariant-loop-i
 invariant-loop-i g l =
-    let read = g.T-as-Item.format.reads l.shape l.whole in
+    let read = g.T.Item.format.reads l.shape l.whole in
     (length l.rest ≤ length l.input)
     × (rest_of (many read l.count l.input) ≡ rest_of (many read (l.count - l.i) l.rest))

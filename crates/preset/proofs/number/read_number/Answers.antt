@@ -11,8 +11,8 @@ returns-in_default c = record { answer = sym (ap (number c.args.place) (nil_from
 pub returns-then-first : goal.returns-then-first
 returns-then-first c = record { answer = sym (number-leading c.args.place c.args.input.now c.if-first.true); rest = tt; refusals = refusals }
 
-pub returns-in_default-default : goal.returns-in_default-default
-returns-in_default-default c =
+pub returns-in_default-rest : goal.returns-in_default-rest
+returns-in_default-rest c =
     let inv = c.loop-i.invariant in
     record { answer = turn-cut c.args.input.now c.loop-i.rest.now c.loop-i.i c.loop-i.high inv.0 inv.2 inv.3 c.args.place c.if-first.false c.loop-i-test.true (omega (arith, ltb-true)); rest = tt; refusals = refusals }
 

@@ -1,4 +1,4 @@
-use Rattle.preset.proofs.NumberLaws.{reads-back, spells_back}
+use Rattle.preset.proofs.NumberLaws.{reads-back, spells-back}
 use Rattle.preset.proofs.number.write_number.Goals as goal
 
 pub returns : goal.returns
