@@ -243,7 +243,7 @@ module _ (part : Part) (n : ℕ) (args rest : List ℕ) (on_line : Of NotNewline
 -- the same after the end of a line
 row_next : (part : Part) (n : ℕ) (text : List ℕ) → row part (record { passed = n; text = 10 ∷ text }) ≡ row part (record { passed = n + 1; text = text })
 unfolding row
-row_next part n text = refl
+row_next part n rest = refl
 
 module _ (part : Part) (n : ℕ) (rest : List ℕ) where
   abbrev line_at : List ℕ → Place
