@@ -5,7 +5,7 @@ use Rattle.automaton.proofs.ring.check_ring.Goals as goal
 
 pub returns-in_err-check_each : goal.returns-in_err-check_each
 returns-in_err-check_each c =
-    let p = err_from_is_err_and c.from-residual.result c.from-residual.ensures.1 in
+    let p = err_from_is_err_and c.from_residual.result c.from_residual.ensures.1 in
     let stop = ring_stopped c.args.q c.args.room c.args.ring.now _ (omega arith) (omega arith) (omega arith) (sym c.in_err-check_each.ensures) in
     rw (p.1, p.2) stop
 
