@@ -13,12 +13,12 @@ returns-in_err-found g c =
     let d = g.D.Density.weights K c.args.first.now in
     let d' = g.E.Density.weights K c.args.second.now in
     let e = c.in_err-found.ensures in
-    let p = err_from_is_err_and c.from-residual.result c.from-residual.ensures.1 in
+    let p = err_from_is_err_and c.from_residual.result c.from_residual.ensures.1 in
     rw (p.1, p.2) (record {
       answer = found_as comparison_of (total K.group d) (total K.group d') _ _ e.answer;
       crossings = e.crossings;
       ring = e.ring;
-      right = comparison-right K _ _ d d' (g.D.Density.lawful K c.args.first.now) (g.E.Density.lawful K c.args.second.now);
+      right = comparison-right K g.C.Charge.equality _ _ d d' (g.D.Density.lawful K c.args.first.now) (g.E.Density.lawful K c.args.second.now);
       whole = comparison-whole;
     })
 
@@ -32,6 +32,6 @@ returns g c =
       answer = ap Ok c.likeness_of.ensures ∙ found_as comparison_of (total K.group d) (total K.group d') _ _ e.answer;
       crossings = e.crossings;
       ring = e.ring;
-      right = comparison-right K _ _ d d' (g.D.Density.lawful K c.args.first.now) (g.E.Density.lawful K c.args.second.now);
+      right = comparison-right K g.C.Charge.equality _ _ d d' (g.D.Density.lawful K c.args.first.now) (g.E.Density.lawful K c.args.second.now);
       whole = comparison-whole;
     }

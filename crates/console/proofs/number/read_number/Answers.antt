@@ -11,7 +11,7 @@ returns-in_err-value c =
     let step = at_drop_more (digits_after c.loop-byte.value) w i 0 c.loop-byte-test.true in
     let stop = digit_stops c.loop-byte.value (get_or w i 0) (drop (i + 1) w) c.in_err-value.ensures in
     let none = number-some w (sym c.if-is_empty.ensures) ∙ (c.loop-byte.invariant.0 ∙ (step ∙ stop)) in
-    rw c.from-residual.ensures (record { value = sym none; bound = tt })
+    rw c.from_residual.ensures (record { value = sym none; bound = tt })
 
 pub loop-byte-preserved : goal.loop-byte-preserved
 loop-byte-preserved c =

@@ -8,7 +8,7 @@ returns-in_err-read_number c =
     let w = c.args.word.now in
     let some : 1 ≤ length w = omega (arith, ltb-false) in
     let minus : get_or w 0 0 ≡ 45 = omega arith in
-    c.from-residual.ensures ∙ sym (signed-minus w some minus ∙ ap (option_map (λ v. neg_ℤ (pos v))) (sym c.in_err-read_number.ensures.value))
+    c.from_residual.ensures ∙ sym (signed-minus w some minus ∙ ap (option_map (λ v. neg_ℤ (pos v))) (sym c.in_err-read_number.ensures.value))
 
 pub returns-in_ok-read_number : goal.returns-in_ok-read_number
 returns-in_ok-read_number c =

@@ -9,7 +9,7 @@ returns-in_err-item g c =
     let F = g.T-as-Item.form in
     let reads = F.reads c.args.kind in
     let items = vec_items c.loop-word.items in
-    let out = passed_on c.from-residual.result c.in_err-item.field-0.0 c.from-residual.ensures.1 in
+    let out = passed_on c.from_residual.result c.in_err-item.field-0.0 c.from_residual.ensures.1 in
     let stop = each-stop reads F.expected c.args.line items c.in-Some.word.front.now (words c.in-Some.word.rest.now) c.in_err-item.field-0.0 c.in_err-item.ensures in
     let here = ap (λ (ws : List (List ℕ)). ahead items (each reads F.expected c.args.line ws)) c.in-Some.ensures.words in
     λ _. ap (read vec_items) out ∙ sym (c.loop-word.invariant ∙ (here ∙ stop))

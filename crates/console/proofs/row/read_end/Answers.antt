@@ -9,7 +9,7 @@ returns-then-is_empty c = ending_none (at c.args.place) (at c.next_word.result) 
 
 pub returns-in_err-bytes : goal.returns-in_err-bytes
 returns-in_err-bytes c =
-    passed_on c.from-residual.result c.in_err-bytes.field-0.0 c.from-residual.ensures.1
+    passed_on c.from_residual.result c.in_err-bytes.field-0.0 c.from_residual.ensures.1
     ∙ ending_stops (at c.args.place) (at c.next_word.result) c.next_word.ensures.place (sym c.if-is_empty.ensures) c.in_err-bytes.field-0.0 c.in_err-bytes.ensures.answer
 
 pub returns-then-not-is_empty : goal.returns-then-not-is_empty

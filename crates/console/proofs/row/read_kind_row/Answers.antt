@@ -9,7 +9,7 @@ use Rattle.console.proofs.row.read_kind_row.Goals as goal
 pub returns-in_err-row : goal.returns-in_err-row
 unfolding kind_row
 returns-in_err-row c =
-    let out = passed_on c.from-residual.result c.in_err-row.field-0.0 c.from-residual.ensures.1 in
+    let out = passed_on c.from_residual.result c.in_err-row.field-0.0 c.from_residual.ensures.1 in
     rw out (record { answer = value_stops named_kind part.Kind Kind (at c.args.place) c.in_err-row.field-0.0 c.in_err-row.ensures.answer; fits = tt })
 
 pub returns-in_default : goal.returns-in_default

@@ -7,7 +7,7 @@ use Rattle.preset.proofs.items.skip.Goals as goal
 pub returns-in_err-item : goal.returns-in_err-item
 returns-in_err-item g c =
     let read = g.T-as-Item.format.reads c.args.shape c.args.whole in
-    let p = err_from_is_err_and c.from-residual.result c.from-residual.ensures.1 in
+    let p = err_from_is_err_and c.from_residual.result c.from_residual.ensures.1 in
     let s = many-stop read c.args.count c.loop-i.i c.loop-i.rest.now _ (omega arith) c.in_err-item.ensures.answer in
     rw (p.1, p.2) (record { answer = sym (c.loop-i.invariant.1 ∙ ap rest_of s); rest = tt })
 

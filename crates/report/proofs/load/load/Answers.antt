@@ -6,6 +6,6 @@ use Rattle.report.proofs.load.load.Goals as goal
 
 pub cut-requires : goal.cut-requires
 cut-requires c =
-    let bytes : Bytes c.args.input.now = All-from_get_or (λ b. b < 256) c.args.input.now 0 (λ i h. let t = c.type-inv.input i in omega arith) in
+    let bytes : Bytes c.args.input.now = All-from_get_or (λ b. b < 256) c.args.input.now 0 (λ i h. let t = c.type_inv.input i in omega arith) in
     let r = c.in_ok-header.ensures in
     read_held c.args.input.now c.in_ok-header.header c.args.letters.now c.read_whole.new.letters c.args.entries.now c.read_whole.new.entries bytes r.sizes r.answer r.letters r.entries
