@@ -6,7 +6,7 @@ use Rattle.fault.specs.Answers.{and_then}
 use Rattle.fault.specs.Checks.{tested}
 use Rattle.fault.specs.Limits.{few_words}
 use Rattle.fault.specs.Refusals.{Refusal}
-use Rattle.charge.specs.Groups.{Kind}
+use Rattle.charge.specs.Groups.{Kind, Equality}
 use Rattle.automaton.specs.Meanings.{Local, Weights, next, total}
 use Rattle.criterion.specs.Answers.{examined, unless_refused}
 use Rattle.criterion.specs.Search.{padding, crossings}
@@ -53,12 +53,12 @@ abbrev pub pair_checked : {A : Type 0} → Weights A → Weights A → Result (U
 pair_checked d e = fitting d.q e.q (max d.k e.k)
 
 -- what is found for strips of these lengths: the failing word with the ring that shows it, if a word fails
-module _ {C : Type 0} (K : Kind C) (crossing_room ring_room : ℕ) where
+module _ {C : Type 0} (K : Kind C) (E : Equality K.group) (crossing_room ring_room : ℕ) where
   abbrev pub judge_found : Local → Weights K.group.Carrier → Result (Option (ℕ × List ℕ)) Refusal
-  judge_found r d = and_then (bench_checked r d) (λ _. examined K padding (rule_label_list K.group r d) crossing_room ring_room)
+  judge_found r d = and_then (bench_checked r d) (λ _. examined K E padding (rule_label_list K.group r d) crossing_room ring_room)
 
   abbrev pub compare_found : Weights K.group.Carrier → Weights K.group.Carrier → Result (Option (ℕ × List ℕ)) Refusal
-  compare_found d e = and_then (pair_checked d e) (λ _. examined K padding (two_label_list K.group d e) crossing_room ring_room)
+  compare_found d e = and_then (pair_checked d e) (λ _. examined K E padding (two_label_list K.group d e) crossing_room ring_room)
 
   -- the crossings that are written: none where the call is refused
   abbrev pub judge_crossings : Local → Weights K.group.Carrier → List K.group.Carrier

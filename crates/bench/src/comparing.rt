@@ -32,9 +32,9 @@ fn compare_words<C: Charge, D: Density<C>, E: Density<C>>(
     crossings: &mut [C],
     ring: &mut [u8],
 ) -> Result<Option<Failure>, Fault>
-    ensures answer { seen result ≡ counted (compare_found C.Charge.kind (length crossings.old) (length ring.old) (D.Density.weights C.Charge.kind first.now) (E.Density.weights C.Charge.kind second.now)) }
-    ensures crossings { FrontMeans C.Charge.kind (compare_crossings C.Charge.kind (length crossings.old) (length ring.old) (D.Density.weights C.Charge.kind first.now) (E.Density.weights C.Charge.kind second.now)) crossings.old crossings.new }
-    ensures ring { ring.new ≡ front (ring_written (compare_found C.Charge.kind (length crossings.old) (length ring.old) (D.Density.weights C.Charge.kind first.now) (E.Density.weights C.Charge.kind second.now))) ring.old }
+    ensures answer { seen result ≡ counted (compare_found C.Charge.kind C.Charge.equality (length crossings.old) (length ring.old) (D.Density.weights C.Charge.kind first.now) (E.Density.weights C.Charge.kind second.now)) }
+    ensures crossings { FrontMeans C.Charge.kind (compare_crossings C.Charge.kind C.Charge.equality (length crossings.old) (length ring.old) (D.Density.weights C.Charge.kind first.now) (E.Density.weights C.Charge.kind second.now)) crossings.old crossings.new }
+    ensures ring { ring.new ≡ front (ring_written (compare_found C.Charge.kind C.Charge.equality (length crossings.old) (length ring.old) (D.Density.weights C.Charge.kind first.now) (E.Density.weights C.Charge.kind second.now))) ring.old }
 {
     let sizes = two_sizes(first, second)?;
     let label = TwoLabel {
@@ -52,9 +52,9 @@ fn compare_on<C: Charge, D: Density<C>, E: Density<C>>(
     crossings: &mut [C],
     ring: &mut [u8],
 ) -> Result<Option<Break<C>>, Fault>
-    ensures answer { found_said C.Charge.kind result ≡ and_then (compare_found C.Charge.kind (length crossings.old) (length ring.old) (D.Density.weights C.Charge.kind first.now) (E.Density.weights C.Charge.kind second.now)) (λ f. Ok (option_map (broken (total_of C.Charge.kind.group (D.Density.weights C.Charge.kind first.now)) (total_of C.Charge.kind.group (E.Density.weights C.Charge.kind second.now))) f)) }
-    ensures crossings { FrontMeans C.Charge.kind (compare_crossings C.Charge.kind (length crossings.old) (length ring.old) (D.Density.weights C.Charge.kind first.now) (E.Density.weights C.Charge.kind second.now)) crossings.old crossings.new }
-    ensures ring { ring.new ≡ front (ring_written (compare_found C.Charge.kind (length crossings.old) (length ring.old) (D.Density.weights C.Charge.kind first.now) (E.Density.weights C.Charge.kind second.now))) ring.old }
+    ensures answer { found_said C.Charge.kind result ≡ and_then (compare_found C.Charge.kind C.Charge.equality (length crossings.old) (length ring.old) (D.Density.weights C.Charge.kind first.now) (E.Density.weights C.Charge.kind second.now)) (λ f. Ok (option_map (broken (total_of C.Charge.kind.group (D.Density.weights C.Charge.kind first.now)) (total_of C.Charge.kind.group (E.Density.weights C.Charge.kind second.now))) f)) }
+    ensures crossings { FrontMeans C.Charge.kind (compare_crossings C.Charge.kind C.Charge.equality (length crossings.old) (length ring.old) (D.Density.weights C.Charge.kind first.now) (E.Density.weights C.Charge.kind second.now)) crossings.old crossings.new }
+    ensures ring { ring.new ≡ front (ring_written (compare_found C.Charge.kind C.Charge.equality (length crossings.old) (length ring.old) (D.Density.weights C.Charge.kind first.now) (E.Density.weights C.Charge.kind second.now))) ring.old }
 {
     let Some(Failure { word, len }) = compare_words(first, second, crossings, ring)? else {
         return Ok(None);
@@ -86,10 +86,10 @@ pub fn compare<C: Charge, D: Density<C>, E: Density<C>>(
     crossings: &mut [C],
     ring: &mut [u8],
 ) -> Result<Likeness<C>, Fault>
-    ensures answer { compare_said C.Charge.kind result ≡ comparing C.Charge.kind (length crossings.old) (length ring.old) (D.Density.weights C.Charge.kind first.now) (E.Density.weights C.Charge.kind second.now) }
-    ensures crossings { FrontMeans C.Charge.kind (compare_crossings C.Charge.kind (length crossings.old) (length ring.old) (D.Density.weights C.Charge.kind first.now) (E.Density.weights C.Charge.kind second.now)) crossings.old crossings.new }
-    ensures ring { ring.new ≡ front (ring_written (compare_found C.Charge.kind (length crossings.old) (length ring.old) (D.Density.weights C.Charge.kind first.now) (E.Density.weights C.Charge.kind second.now))) ring.old }
-    ensures right { ComparisonRight C.Charge.kind (D.Density.weights C.Charge.kind first.now) (E.Density.weights C.Charge.kind second.now) (compare_found C.Charge.kind (length crossings.old) (length ring.old) (D.Density.weights C.Charge.kind first.now) (E.Density.weights C.Charge.kind second.now)) }
+    ensures answer { compare_said C.Charge.kind result ≡ comparing C.Charge.kind C.Charge.equality (length crossings.old) (length ring.old) (D.Density.weights C.Charge.kind first.now) (E.Density.weights C.Charge.kind second.now) }
+    ensures crossings { FrontMeans C.Charge.kind (compare_crossings C.Charge.kind C.Charge.equality (length crossings.old) (length ring.old) (D.Density.weights C.Charge.kind first.now) (E.Density.weights C.Charge.kind second.now)) crossings.old crossings.new }
+    ensures ring { ring.new ≡ front (ring_written (compare_found C.Charge.kind C.Charge.equality (length crossings.old) (length ring.old) (D.Density.weights C.Charge.kind first.now) (E.Density.weights C.Charge.kind second.now))) ring.old }
+    ensures right { ComparisonRight C.Charge.kind (D.Density.weights C.Charge.kind first.now) (E.Density.weights C.Charge.kind second.now) (compare_found C.Charge.kind C.Charge.equality (length crossings.old) (length ring.old) (D.Density.weights C.Charge.kind first.now) (E.Density.weights C.Charge.kind second.now)) }
     ensures whole { ComparisonWhole }
 {
     let found = compare_on(first, second, crossings, ring)?;

@@ -75,9 +75,9 @@ fn judge_words<C: Charge, R: Rule, D: Density<C>>(
     crossings: &mut [C],
     ring: &mut [u8],
 ) -> Result<Option<Failure>, Fault>
-    ensures answer { seen result ≡ counted (judge_found C.Charge.kind (length crossings.old) (length ring.old) (R.Rule.meaning rule.now) (D.Density.weights C.Charge.kind density.now)) }
-    ensures crossings { FrontMeans C.Charge.kind (judge_crossings C.Charge.kind (length crossings.old) (length ring.old) (R.Rule.meaning rule.now) (D.Density.weights C.Charge.kind density.now)) crossings.old crossings.new }
-    ensures ring { ring.new ≡ front (ring_written (judge_found C.Charge.kind (length crossings.old) (length ring.old) (R.Rule.meaning rule.now) (D.Density.weights C.Charge.kind density.now))) ring.old }
+    ensures answer { seen result ≡ counted (judge_found C.Charge.kind C.Charge.equality (length crossings.old) (length ring.old) (R.Rule.meaning rule.now) (D.Density.weights C.Charge.kind density.now)) }
+    ensures crossings { FrontMeans C.Charge.kind (judge_crossings C.Charge.kind C.Charge.equality (length crossings.old) (length ring.old) (R.Rule.meaning rule.now) (D.Density.weights C.Charge.kind density.now)) crossings.old crossings.new }
+    ensures ring { ring.new ≡ front (ring_written (judge_found C.Charge.kind C.Charge.equality (length crossings.old) (length ring.old) (R.Rule.meaning rule.now) (D.Density.weights C.Charge.kind density.now))) ring.old }
 {
     let sizes = rule_sizes(rule, density)?;
     let label = RuleLabel {
@@ -95,9 +95,9 @@ fn judge_on<C: Charge, R: Rule, D: Density<C>>(
     crossings: &mut [C],
     ring: &mut [u8],
 ) -> Result<Option<Break<C>>, Fault>
-    ensures answer { found_said C.Charge.kind result ≡ and_then (judge_found C.Charge.kind (length crossings.old) (length ring.old) (R.Rule.meaning rule.now) (D.Density.weights C.Charge.kind density.now)) (λ f. Ok (option_map (broken (total_of C.Charge.kind.group (D.Density.weights C.Charge.kind density.now)) (λ c. total_of C.Charge.kind.group (D.Density.weights C.Charge.kind density.now) (next (R.Rule.meaning rule.now) c))) f)) }
-    ensures crossings { FrontMeans C.Charge.kind (judge_crossings C.Charge.kind (length crossings.old) (length ring.old) (R.Rule.meaning rule.now) (D.Density.weights C.Charge.kind density.now)) crossings.old crossings.new }
-    ensures ring { ring.new ≡ front (ring_written (judge_found C.Charge.kind (length crossings.old) (length ring.old) (R.Rule.meaning rule.now) (D.Density.weights C.Charge.kind density.now))) ring.old }
+    ensures answer { found_said C.Charge.kind result ≡ and_then (judge_found C.Charge.kind C.Charge.equality (length crossings.old) (length ring.old) (R.Rule.meaning rule.now) (D.Density.weights C.Charge.kind density.now)) (λ f. Ok (option_map (broken (total_of C.Charge.kind.group (D.Density.weights C.Charge.kind density.now)) (λ c. total_of C.Charge.kind.group (D.Density.weights C.Charge.kind density.now) (next (R.Rule.meaning rule.now) c))) f)) }
+    ensures crossings { FrontMeans C.Charge.kind (judge_crossings C.Charge.kind C.Charge.equality (length crossings.old) (length ring.old) (R.Rule.meaning rule.now) (D.Density.weights C.Charge.kind density.now)) crossings.old crossings.new }
+    ensures ring { ring.new ≡ front (ring_written (judge_found C.Charge.kind C.Charge.equality (length crossings.old) (length ring.old) (R.Rule.meaning rule.now) (D.Density.weights C.Charge.kind density.now))) ring.old }
 {
     let Some(Failure { word, len }) = judge_words(rule, density, crossings, ring)? else {
         return Ok(None);
@@ -144,11 +144,11 @@ impl<R: Rule, D> Draft<R, D> {
     ) -> Result<Verdict<C, R, D>, Refused<Draft<R, D>>>
     where
         D: Density<C>,
-        ensures answer { judge_said C.Charge.kind result ≡ judging C.Charge.kind (length crossings.old) (length ring.old) (R.Rule.meaning self.parts.rule) (D.Density.weights C.Charge.kind self.parts.density) }
+        ensures answer { judge_said C.Charge.kind result ≡ judging C.Charge.kind C.Charge.equality (length crossings.old) (length ring.old) (R.Rule.meaning self.parts.rule) (D.Density.weights C.Charge.kind self.parts.density) }
         ensures parts { judge_parts result ≡ self.parts }
-        ensures crossings { FrontMeans C.Charge.kind (judge_crossings C.Charge.kind (length crossings.old) (length ring.old) (R.Rule.meaning self.parts.rule) (D.Density.weights C.Charge.kind self.parts.density)) crossings.old crossings.new }
-        ensures ring { ring.new ≡ front (ring_written (judge_found C.Charge.kind (length crossings.old) (length ring.old) (R.Rule.meaning self.parts.rule) (D.Density.weights C.Charge.kind self.parts.density))) ring.old }
-        ensures right { VerdictRight C.Charge.kind (R.Rule.meaning self.parts.rule) (D.Density.weights C.Charge.kind self.parts.density) (judge_found C.Charge.kind (length crossings.old) (length ring.old) (R.Rule.meaning self.parts.rule) (D.Density.weights C.Charge.kind self.parts.density)) }
+        ensures crossings { FrontMeans C.Charge.kind (judge_crossings C.Charge.kind C.Charge.equality (length crossings.old) (length ring.old) (R.Rule.meaning self.parts.rule) (D.Density.weights C.Charge.kind self.parts.density)) crossings.old crossings.new }
+        ensures ring { ring.new ≡ front (ring_written (judge_found C.Charge.kind C.Charge.equality (length crossings.old) (length ring.old) (R.Rule.meaning self.parts.rule) (D.Density.weights C.Charge.kind self.parts.density))) ring.old }
+        ensures right { VerdictRight C.Charge.kind (R.Rule.meaning self.parts.rule) (D.Density.weights C.Charge.kind self.parts.density) (judge_found C.Charge.kind C.Charge.equality (length crossings.old) (length ring.old) (R.Rule.meaning self.parts.rule) (D.Density.weights C.Charge.kind self.parts.density)) }
         ensures whole { VerdictWhole }
     {
         match judge_on(&self.parts.rule, &self.parts.density, crossings, ring) {

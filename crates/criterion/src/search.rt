@@ -4,8 +4,8 @@ ghost use Rattle.fault.specs.Answers.{plainly, front};
 ghost use Rattle.automaton.specs.Words.{word};
 ghost use Rattle.criterion.specs.Answers.{seen, counted, examined, crossings_written, ring_written};
 ghost use Rattle.criterion.specs.Search.{padding, failing, with_room};
-ghost use Rattle.criterion.specs.Search.{crossings as crossingsOf};
-ghost use Rattle.criterion.specs.Search.{fails as failsAt};
+ghost use Rattle.criterion.specs.Search.{crossings as crossings_of};
+ghost use Rattle.criterion.specs.Search.{fails as fails_at};
 ghost use Rattle.criterion.specs.Strips.{FrontMeans};
 ghost use Rattle.criterion.specs.Laws.{LabelLaw};
 
@@ -49,9 +49,9 @@ fn fails<C: Charge, L: Label<C>>(
     code: usize,
 ) -> bool
     requires heads { (heads ≡ (L.Label.labels C.Charge.kind label.now).q ^ ((L.Label.labels C.Charge.kind label.now).k - 1)) × (heads ≤ length crossings.now) }
-    requires filled { map C.Charge.kind.means (take heads crossings.now) ≡ crossingsOf C.Charge.kind padding (L.Label.labels C.Charge.kind label.now) }
+    requires filled { map C.Charge.kind.means (take heads crossings.now) ≡ crossings_of C.Charge.kind padding (L.Label.labels C.Charge.kind label.now) }
     requires front { (code / (L.Label.labels C.Charge.kind label.now).q ≡ head) × (head < heads) }
-    ensures { result ≡ failsAt C.Charge.kind padding (L.Label.labels C.Charge.kind label.now) (word (L.Label.labels C.Charge.kind label.now).q (L.Label.labels C.Charge.kind label.now).k code) }
+    ensures { result ≡ fails_at C.Charge.kind C.Charge.equality padding (L.Label.labels C.Charge.kind label.now) (word (L.Label.labels C.Charge.kind label.now).q (L.Label.labels C.Charge.kind label.now).k code) }
 {
     let crosses = difference(crossings[head], crossings[code % heads]);
     !labelled(label, code, crosses)
@@ -60,8 +60,8 @@ fn fails<C: Charge, L: Label<C>>(
 // The smallest code of a word that fails, once the crossings stand at the front of the strip.
 fn first_failing<C: Charge, L: Label<C>>(label: &L, crossings: &[C]) -> Option<usize>
     requires room { (L.Label.labels C.Charge.kind label.now).q ^ ((L.Label.labels C.Charge.kind label.now).k - 1) ≤ length crossings.now }
-    requires filled { map C.Charge.kind.means (take ((L.Label.labels C.Charge.kind label.now).q ^ ((L.Label.labels C.Charge.kind label.now).k - 1)) crossings.now) ≡ crossingsOf C.Charge.kind padding (L.Label.labels C.Charge.kind label.now) }
-    ensures { result ≡ failing C.Charge.kind padding (L.Label.labels C.Charge.kind label.now) }
+    requires filled { map C.Charge.kind.means (take ((L.Label.labels C.Charge.kind label.now).q ^ ((L.Label.labels C.Charge.kind label.now).k - 1)) crossings.now) ≡ crossings_of C.Charge.kind padding (L.Label.labels C.Charge.kind label.now) }
+    ensures { result ≡ failing C.Charge.kind C.Charge.equality padding (L.Label.labels C.Charge.kind label.now) }
 {
     let q = label.q();
     let heads = head_count(label);
@@ -102,10 +102,10 @@ pub fn examine<C: Charge, L: Label<C>>(
     crossings: &mut [C],
     ring: &mut [u8],
 ) -> Result<Option<Failure>, Fault>
-    ensures answer { seen result ≡ counted (examined C.Charge.kind padding (L.Label.labels C.Charge.kind label.now) (length crossings.old) (length ring.old)) }
-    ensures crossings { FrontMeans C.Charge.kind (crossings_written C.Charge.kind padding (L.Label.labels C.Charge.kind label.now) (length crossings.old) (length ring.old)) crossings.old crossings.new }
-    ensures ring { ring.new ≡ front (ring_written (examined C.Charge.kind padding (L.Label.labels C.Charge.kind label.now) (length crossings.old) (length ring.old))) ring.old }
-    ensures law { LabelLaw C.Charge.kind padding (L.Label.labels C.Charge.kind label.now) }
+    ensures answer { seen result ≡ counted (examined C.Charge.kind C.Charge.equality padding (L.Label.labels C.Charge.kind label.now) (length crossings.old) (length ring.old)) }
+    ensures crossings { FrontMeans C.Charge.kind (crossings_written C.Charge.kind C.Charge.equality padding (L.Label.labels C.Charge.kind label.now) (length crossings.old) (length ring.old)) crossings.old crossings.new }
+    ensures ring { ring.new ≡ front (ring_written (examined C.Charge.kind C.Charge.equality padding (L.Label.labels C.Charge.kind label.now) (length crossings.old) (length ring.old))) ring.old }
+    ensures law { LabelLaw C.Charge.kind C.Charge.equality padding (L.Label.labels C.Charge.kind label.now) }
 {
     check_room(label, crossings.len(), ring.len())?;
     fill_crossings(label, crossings);

@@ -28,7 +28,7 @@ fn write_word(q: usize, m: usize, code: usize, strip: &mut [u8])
 fn sums_to_zero<C: Charge, L: Label<C>>(label: &L, ring: &[u8]) -> Result<bool, Fault>
     requires length { (1 ≤ length ring.now) × (length ring.now ≤ 4096) }
     requires letters { Letters (L.Label.labels C.Charge.kind label.now).q ring.now }
-    ensures { plainly result ≡ Ok (sums_to_zero C.Charge.kind (L.Label.labels C.Charge.kind label.now) ring.now) }
+    ensures { plainly result ≡ Ok (sums_to_zero C.Charge.kind C.Charge.equality (L.Label.labels C.Charge.kind label.now) ring.now) }
 {
     let sum: C = total(&LabelDensity { label }, ring)?;
     Ok(sum.same(C::zero()))
@@ -62,8 +62,8 @@ pub(crate) fn write_shown<C: Charge, L: Label<C>>(
     strip: &mut [u8],
 ) -> Result<usize, Fault>
     requires { 2 * (L.Label.labels C.Charge.kind label.now).k - 1 ≤ length strip.old }
-    ensures answer { plainly result ≡ Ok (length (shown C.Charge.kind padding (L.Label.labels C.Charge.kind label.now) (word (L.Label.labels C.Charge.kind label.now).q (L.Label.labels C.Charge.kind label.now).k code))) }
-    ensures strip { strip.new ≡ front (shown C.Charge.kind padding (L.Label.labels C.Charge.kind label.now) (word (L.Label.labels C.Charge.kind label.now).q (L.Label.labels C.Charge.kind label.now).k code)) strip.old }
+    ensures answer { plainly result ≡ Ok (length (shown C.Charge.kind C.Charge.equality padding (L.Label.labels C.Charge.kind label.now) (word (L.Label.labels C.Charge.kind label.now).q (L.Label.labels C.Charge.kind label.now).k code))) }
+    ensures strip { strip.new ≡ front (shown C.Charge.kind C.Charge.equality padding (L.Label.labels C.Charge.kind label.now) (word (L.Label.labels C.Charge.kind label.now).q (L.Label.labels C.Charge.kind label.now).k code)) strip.old }
 {
     let m = label.m();
     let mut cells = [0u8; MOST_SHOWN];

@@ -18,7 +18,7 @@ returns-in_err-found g c =
       answer = found_as comparison_of (total K.group d) (total K.group d') _ _ e.answer;
       crossings = e.crossings;
       ring = e.ring;
-      right = comparison-right K _ _ d d' (g.D.Density.lawful K c.args.first.now) (g.E.Density.lawful K c.args.second.now);
+      right = comparison-right K g.C.Charge.equality _ _ d d' (g.D.Density.lawful K c.args.first.now) (g.E.Density.lawful K c.args.second.now);
       whole = comparison-whole;
     })
 
@@ -32,6 +32,6 @@ returns g c =
       answer = ap Ok c.likeness_of.ensures ∙ found_as comparison_of (total K.group d) (total K.group d') _ _ e.answer;
       crossings = e.crossings;
       ring = e.ring;
-      right = comparison-right K _ _ d d' (g.D.Density.lawful K c.args.first.now) (g.E.Density.lawful K c.args.second.now);
+      right = comparison-right K g.C.Charge.equality _ _ d d' (g.D.Density.lawful K c.args.first.now) (g.E.Density.lawful K c.args.second.now);
       whole = comparison-whole;
     }

@@ -8,7 +8,7 @@ slice_bounds-shown-end g c =
     let d = g.D.Density.weights K c.args.first.now in
     let e = g.E.Density.weights K c.args.second.now in
     let left = c.in_ok-word.ensures in
-    let s = compare-shown K _ _ c.in-Some.field-0.word c.in-Some.field-0.len c.args.ring.now c.compare_words.new.ring d e (g.D.Density.lawful K c.args.first.now) (g.E.Density.lawful K c.args.second.now) (rw c.in-Some.is at left.answer) left.ring in
+    let s = compare-shown K g.C.Charge.equality _ _ c.in-Some.field-0.word c.in-Some.field-0.len c.args.ring.now c.compare_words.new.ring d e (g.D.Density.lawful K c.args.first.now) (g.E.Density.lawful K c.args.second.now) (rw c.in-Some.is at left.answer) left.ring in
     s.0.room
 
 pub shown_total-requires : goal.shown_total-requires
@@ -17,7 +17,7 @@ shown_total-requires g c =
     let d = g.D.Density.weights K c.args.first.now in
     let e = g.E.Density.weights K c.args.second.now in
     let left = c.in_ok-word.ensures in
-    let s = compare-shown K _ _ c.in-Some.field-0.word c.in-Some.field-0.len c.args.ring.now c.compare_words.new.ring d e (g.D.Density.lawful K c.args.first.now) (g.E.Density.lawful K c.args.second.now) (rw c.in-Some.is at left.answer) left.ring in
+    let s = compare-shown K g.C.Charge.equality _ _ c.in-Some.field-0.word c.in-Some.field-0.len c.args.ring.now c.compare_words.new.ring d e (g.D.Density.lawful K c.args.first.now) (g.E.Density.lawful K c.args.second.now) (rw c.in-Some.is at left.answer) left.ring in
     let f = shown-fits s.0 in
     record { length = (f.0, f.1); letters = f.2 }
 
@@ -27,7 +27,7 @@ shown_total-requires-2 g c =
     let d = g.D.Density.weights K c.args.first.now in
     let e = g.E.Density.weights K c.args.second.now in
     let left = c.in_ok-word.ensures in
-    let s = compare-shown K _ _ c.in-Some.field-0.word c.in-Some.field-0.len c.args.ring.now c.compare_words.new.ring d e (g.D.Density.lawful K c.args.first.now) (g.E.Density.lawful K c.args.second.now) (rw c.in-Some.is at left.answer) left.ring in
+    let s = compare-shown K g.C.Charge.equality _ _ c.in-Some.field-0.word c.in-Some.field-0.len c.args.ring.now c.compare_words.new.ring d e (g.D.Density.lawful K c.args.first.now) (g.E.Density.lawful K c.args.second.now) (rw c.in-Some.is at left.answer) left.ring in
     let f = shown-fits s.0 in
     record { length = (f.0, f.1); letters = shown-letters s.0 _ s.1 }
 
@@ -37,7 +37,7 @@ returns g c =
     let d = g.D.Density.weights K c.args.first.now in
     let e = g.E.Density.weights K c.args.second.now in
     let left = c.in_ok-word.ensures in
-    let s = compare-shown K _ _ c.in-Some.field-0.word c.in-Some.field-0.len c.args.ring.now c.compare_words.new.ring d e (g.D.Density.lawful K c.args.first.now) (g.E.Density.lawful K c.args.second.now) (rw c.in-Some.is at left.answer) left.ring in
+    let s = compare-shown K g.C.Charge.equality _ _ c.in-Some.field-0.word c.in-Some.field-0.len c.args.ring.now c.compare_words.new.ring d e (g.D.Density.lawful K c.args.first.now) (g.E.Density.lawful K c.args.second.now) (rw c.in-Some.is at left.answer) left.ring in
     record {
       answer = shown-broken s.0 (total K.group d) (total K.group e) _ _ c.shown_total.ensures c.shown_total-2.ensures;
       crossings = left.crossings;

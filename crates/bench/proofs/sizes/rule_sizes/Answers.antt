@@ -6,4 +6,4 @@ invariant_of-result g c =
     let lawful = g.R.Rule.lawful c.args.rule.now in
     let weighed = g.D.Density.lawful g.C.Charge.kind c.args.density.now in
     let p = bench-sizes _ _ _ _ _ _ _ _ lawful weighed c.q-q.ensures c.n-n.ensures c.l.ensures c.k-k.ensures c.q.ensures c.in_ok-words.ensures in
-    (p.0, (p.1, (p.2, (p.3, tt))))
+    record { rule = p.0; density = p.1; label = p.2; counted = p.3 }

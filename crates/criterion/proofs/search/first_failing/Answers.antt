@@ -6,6 +6,7 @@ use Rattle.criterion.proofs.search.first_failing.Goals as goal
 pub code_of-code-requires : goal.code_of-code-requires
 code_of-code-requires g c =
     let K = g.C.Charge.kind in
+    let E = g.C.Charge.equality in
     let d = g.L.Label.labels K c.args.label.now in
     let weighed = g.L.Label.lawful K c.args.label.now in
     record { small = (omega (arith, weighed.sizes.1), omega (arith, heads-few d weighed)); within = (c.loop-head-test.true, c.loop-last-test.true) }
@@ -13,8 +14,9 @@ code_of-code-requires g c =
 pub loop-last-preserved : goal.loop-last-preserved
 loop-last-preserved g c =
     let K = g.C.Charge.kind in
+    let E = g.C.Charge.equality in
     let label = c.args.label.now in
-    search_more K (g.L.Label.labels K label) (g.L.Label.lawful K label)
+    search_more K E (g.L.Label.labels K label) (g.L.Label.lawful K label)
     c.head_count-heads.result c.q-q.result c.loop-head.head c.loop-last.last c.code_of-code.result c.fails.result
     c.head_count-heads.ensures c.q-q.ensures c.code_of-code.ensures.is c.code_of-code.ensures.below c.loop-last.invariant c.fails.ensures
     c.if-fails.false
@@ -22,8 +24,9 @@ loop-last-preserved g c =
 pub returns-then-fails : goal.returns-then-fails
 returns-then-fails g c =
     let K = g.C.Charge.kind in
+    let E = g.C.Charge.equality in
     let label = c.args.label.now in
-    search-stop K (g.L.Label.labels K label) (g.L.Label.lawful K label)
+    search-stop K E (g.L.Label.labels K label) (g.L.Label.lawful K label)
     c.head_count-heads.result c.q-q.result c.loop-head.head c.loop-last.last c.code_of-code.result c.fails.result
     c.head_count-heads.ensures c.q-q.ensures c.code_of-code.ensures.is c.code_of-code.ensures.below c.loop-last.invariant c.fails.ensures
     c.if-fails.true
@@ -31,5 +34,6 @@ returns-then-fails g c =
 pub returns-after-loop-head : goal.returns-after-loop-head
 returns-after-loop-head g c =
     let K = g.C.Charge.kind in
+    let E = g.C.Charge.equality in
     let label = c.args.label.now in
-    search_end K (g.L.Label.labels K label) (g.L.Label.lawful K label) c.loop-head.head (omega arith) c.loop-head.invariant
+    search_end K E (g.L.Label.labels K label) (g.L.Label.lawful K label) c.loop-head.head (omega arith) c.loop-head.invariant

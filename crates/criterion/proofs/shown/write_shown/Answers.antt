@@ -15,6 +15,6 @@ returns g c =
     let K = g.C.Charge.kind in
     let label = c.args.label.now in
     let is = c.ring_of.ensures ∙ shown-taken K (g.L.Label.labels K label) (g.L.Label.lawful K label) c.args.code c.q.result c.m-m.result c.write_word.new.strip
-    c.q.ensures c.m-m.ensures c.write_word.ensures _ c.in_ok-zero.ensures in
+    c.q.ensures c.m-m.ensures c.write_word.ensures g.C.Charge.equality _ c.in_ok-zero.ensures in
     let all = copied _ _ c.args.strip.now c.copy_ring.new.strip c.copy_ring.result is c.copy_ring.ensures.answer c.copy_ring.ensures.strip in
     record { answer = all.0; strip = all.1 }

@@ -18,7 +18,7 @@ invariant_of-self g c =
     let p = pattern_passes g.C.Charge.kind c.args.q c.args.k c.args.word.now _ c.args.charge (sym c.in_ok-letters.ensures) in
     let t = taken-letters c.args.q c.args.k c.args.word.now _ p.1 in
     let e = c.window_code-pattern.ensures ∙ ap (code c.args.q) (window-whole c.args.k _ t.0) in
-    (p.0, (subst (λ (n : ℕ). n < c.args.q ^ c.args.k) (sym e) (code_lt c.args.q c.args.k _ t), tt))
+    record { sizes = p.0; within = subst (λ (n : ℕ). n < c.args.q ^ c.args.k) (sym e) (code_lt c.args.q c.args.k _ t) }
 
 pub returns : goal.returns
 returns g c =

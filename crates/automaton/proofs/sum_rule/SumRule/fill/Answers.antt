@@ -11,7 +11,7 @@ invariant_of-self c =
     let n = c.args.n in
     let counts = rule-counted q n c.args.l _ (sym c.in_ok-words.ensures.answer) in
     let letters = taken-letters q (sum_count q n) c.args.letters.now _ (sym c.in_ok-letters.ensures) in
-    (c.in_ok-words.ensures.sizes, (counts.0, (counts.1, (letters.1, tt))))
+    record { sizes = c.in_ok-words.ensures.sizes; counted = counts.0; few = counts.1; below = letters.1 }
 
 pub returns : goal.returns
 returns c =

@@ -10,7 +10,7 @@ invariant_of-self c =
     let q = c.args.q in
     let p = rule_passes q c.args.n c.args.l (q ^ c.args.n) c.args.letters.now _ (sym c.in_ok-letters.ensures) in
     let t = taken-letters q (q ^ c.args.n) c.args.letters.now _ p.2 in
-    (p.0, (p.1, (t.1, (omega (arith, t.0), tt))))
+    record { sizes = p.0; few = p.1; below = t.1; exact = omega (arith, t.0) }
 
 pub returns : goal.returns
 returns c =

@@ -17,7 +17,7 @@ returns-in-Ok g c =
       parts = c.verdict_of.ensures.parts;
       crossings = e.crossings;
       ring = e.ring;
-      right = verdict-right K _ _ r d (g.R.Rule.lawful c.args.self.parts.rule) (g.D.Density.lawful K c.args.self.parts.density);
+      right = verdict-right K g.C.Charge.equality _ _ r d (g.R.Rule.lawful c.args.self.parts.rule) (g.D.Density.lawful K c.args.self.parts.density);
       whole = verdict-whole;
     }
 
@@ -32,6 +32,6 @@ returns-in-Err g c =
       parts = refl;
       crossings = e.crossings;
       ring = e.ring;
-      right = verdict-right K _ _ r d (g.R.Rule.lawful c.args.self.parts.rule) (g.D.Density.lawful K c.args.self.parts.density);
+      right = verdict-right K g.C.Charge.equality _ _ r d (g.R.Rule.lawful c.args.self.parts.rule) (g.D.Density.lawful K c.args.self.parts.density);
       whole = verdict-whole;
     }
