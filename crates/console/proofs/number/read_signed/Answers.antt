@@ -8,11 +8,7 @@ returns-in_err-read_number-in-45 c =
     let w = c.args.word.now in
     let some : 1 ≤ length w = omega (arith, ltb-false) in
     let minus : get_or w 0 0 ≡ 45 = omega arith in
-<<<<<<< HEAD
     c.from_residual.ensures ∙ sym (signed-minus w some minus ∙ ap (option_map (λ v. neg_ℤ (pos v))) (sym c.in_err-read_number-in-45.ensures.value))
-=======
-    c.from_residual.ensures ∙ sym (signed-minus w some minus ∙ ap (option_map (λ v. neg_ℤ (pos v))) (sym c.in_err-read_number.ensures.value))
->>>>>>> 3884943c72128510022a2ae140fde2fc21317aa5
 
 pub returns-in_ok-read_number-in-45 : goal.returns-in_ok-read_number-in-45
 returns-in_ok-read_number-in-45 c =
