@@ -16,7 +16,7 @@ fn compare_parts<C: Charge, D: Density<C>, E: Density<C>>(
     crossings: &mut [C],
     ring: &mut [u8],
 ) -> Result<Option<Break<C>>, Fault>
-    ensures { CompareFinds C.Charge.kind (D.Density.weights C.Charge.kind first.now) (E.Density.weights C.Charge.kind second.now) (compare_found C.Charge.kind (length crossings.old) (length ring.old) (D.Density.weights C.Charge.kind first.now) (E.Density.weights C.Charge.kind second.now)) crossings.old crossings.new ring.old ring.new result }
+    ensures { CompareFinds C.Charge.kind (D.Density.weights C.Charge.kind first.now) (E.Density.weights C.Charge.kind second.now) (compare_found C.Charge.kind C.Charge.equality (length crossings.old) (length ring.old) (D.Density.weights C.Charge.kind first.now) (E.Density.weights C.Charge.kind second.now)) crossings.old crossings.new ring.old ring.new result }
 {
     match compare(first, second, crossings, ring) {
         Ok(Likeness::Agree) => Ok(None),
@@ -34,7 +34,7 @@ pub(crate) fn compare_tables<C: Charge>(
     crossings: &mut [C],
     ring: &mut [u8],
 ) -> Result<Option<Break<C>>, Fault>
-    ensures { CompareFinds C.Charge.kind (preset_density C.Charge.kind first charges.now) (preset_density C.Charge.kind second others.now) (pair_found C.Charge.kind (length crossings.old) (length ring.old) first charges.now second others.now) crossings.old crossings.new ring.old ring.new result }
+    ensures { CompareFinds C.Charge.kind (preset_density C.Charge.kind first charges.now) (preset_density C.Charge.kind second others.now) (pair_found C.Charge.kind C.Charge.equality (length crossings.old) (length ring.old) first charges.now second others.now) crossings.old crossings.new ring.old ring.new result }
 {
     let mut density = TableDensity::zero();
     density.fill(first.q, first.k, charges)?;

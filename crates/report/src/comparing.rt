@@ -38,7 +38,7 @@ fn compare_on<C: Sent>(
     ring: &mut [u8],
 ) -> Result<Line, AllocError>
     requires { 1 ≤ first.q }
-    ensures { IfOk result (ToldComparison C.Charge.kind C.Sent.sending (length crossings.old) (length ring.old) subject.now first charges.now second others.now) }
+    ensures { IfOk result (ToldComparison C.Charge.kind C.Charge.equality C.Sent.sending (length crossings.old) (length ring.old) subject.now first charges.now second others.now) }
 {
     let shape = compare_shape(C::kind(), first, second);
     let found = compare_tables(first, charges, second, others, crossings, ring);
@@ -61,7 +61,7 @@ fn compare_charges<C: Sent>(
 ) -> Result<Line, AllocError>
     requires first { Sound C.Sent.sending.named first.header first.entries.now }
     requires second { Sound C.Sent.sending.named second.header second.entries.now }
-    ensures { IfOk result (CompareLine C.Charge.kind C.Sent.sending subject.now first.entry.header first.entry.entries.now second.entry.header second.entry.entries.now) }
+    ensures { IfOk result (CompareLine C.Charge.kind C.Charge.equality C.Sent.sending subject.now first.entry.header first.entry.entries.now second.entry.header second.entry.entries.now) }
 {
     let charges = charges_of::<C>(heap, first.entries)?;
     let others = charges_of::<C>(heap, second.entries)?;

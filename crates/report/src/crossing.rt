@@ -84,7 +84,7 @@ fn cross_on<C: Sent>(
 ) -> Result<Result<Line, Fault>, AllocError>
     requires sound { Sound C.Sent.sending.named preset.header preset.entries.now }
     requires room { length crossings.old ≤ most_words }
-    ensures { IfOk result (ToldCrossings C.Charge.kind C.Sent.sending (length crossings.old) (length ring.old) preset.entry.header preset.entry.letters.now charges.now) }
+    ensures { IfOk result (ToldCrossings C.Charge.kind C.Charge.equality C.Sent.sending (length crossings.old) (length ring.old) preset.entry.header preset.entry.letters.now charges.now) }
 {
     let shape = crossing_shape(C::kind(), preset.header);
     match judge_tables(preset, charges, crossings, ring) {
@@ -102,7 +102,7 @@ fn cross_charges<C: Sent>(
     preset: Loaded<'_>,
 ) -> Result<Result<Line, Fault>, AllocError>
     requires { Sound C.Sent.sending.named preset.header preset.entries.now }
-    ensures { IfOk result (CrossingsPage C.Charge.kind C.Sent.sending preset.entry.header preset.entry.letters.now preset.entry.entries.now) }
+    ensures { IfOk result (CrossingsPage C.Charge.kind C.Charge.equality C.Sent.sending preset.entry.header preset.entry.letters.now preset.entry.entries.now) }
 {
     let charges = charges_of::<C>(heap, preset.entries)?;
     let mut crossings = zeros_of::<C>(heap, CROSSING_ROOM)?;

@@ -67,7 +67,7 @@ fn judge_on<C: Sent>(
     ring: &mut [u8],
 ) -> Result<Line, AllocError>
     requires { Sound C.Sent.sending.named preset.header preset.entries.now }
-    ensures { IfOk result (ToldJudgement C.Charge.kind C.Sent.sending (length crossings.old) (length ring.old) name.now preset.entry.header preset.entry.letters.now charges.now) }
+    ensures { IfOk result (ToldJudgement C.Charge.kind C.Charge.equality C.Sent.sending (length crossings.old) (length ring.old) name.now preset.entry.header preset.entry.letters.now charges.now) }
 {
     let shape = judge_shape(C::kind(), preset.header);
     let found = judge_tables(preset, charges, crossings, ring);
@@ -77,7 +77,7 @@ fn judge_on<C: Sent>(
 // The line of a preset of one kind.
 fn judge_charges<C: Sent>(heap: Global, name: &str, preset: Loaded<'_>) -> Result<Line, AllocError>
     requires { Sound C.Sent.sending.named preset.header preset.entries.now }
-    ensures { IfOk result (JudgeLine C.Charge.kind C.Sent.sending name.now preset.entry.header preset.entry.letters.now preset.entry.entries.now) }
+    ensures { IfOk result (JudgeLine C.Charge.kind C.Charge.equality C.Sent.sending name.now preset.entry.header preset.entry.letters.now preset.entry.entries.now) }
 {
     let charges = charges_of::<C>(heap, preset.entries)?;
     let mut crossings = zeros_of::<C>(heap, CROSSING_ROOM)?;

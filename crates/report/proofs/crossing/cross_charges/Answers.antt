@@ -6,4 +6,4 @@ use Rattle.report.proofs.crossing.cross_charges.Goals as goal
 pub returns : goal.returns
 returns g c =
     let S = g.C.Sent.sending in
-    IfOk-weaker c.cross_on.result _ _ (crossings_page g.C.Charge.kind S c.args.preset.header c.args.preset.letters.now c.args.preset.entries.now c.deref.result.now (length c.deref-mut.result.now) _ (ap length c.deref-mut.ensures.value ∙ c.in_ok-crossings.ensures) refl (ap (map S.entry) c.deref.ensures.value ∙ c.in_ok-charges.ensures)) c.cross_on.ensures
+    IfOk-weaker c.cross_on.result _ _ (crossings-page g.C.Charge.kind g.C.Charge.equality S c.args.preset.header c.args.preset.letters.now c.args.preset.entries.now c.deref.result.now (length c.deref_mut.result.now) _ (ap length c.deref_mut.ensures.value ∙ c.in_ok-crossings.ensures) refl (ap (map S.entry) c.deref.ensures.value ∙ c.in_ok-charges.ensures)) c.cross_on.ensures
