@@ -6,6 +6,7 @@ use console::{encode_page, show_preset};
 use fault::Fault;
 use report::{Line, compare_line, crossings_page, judge_line};
 use std::io::Write;
+use std::process::ExitCode;
 use std::rt::Files;
 use std::{env, fs, io};
 
@@ -170,6 +171,15 @@ fn words(rt: &HostRuntime) -> io::Result<Vec<String>> {
     Ok(words)
 }
 
-fn main(rt: HostRuntime) -> Result<(), Failed> {
-    obey(&rt, &words(&rt)?)
+// What the program was asked to do.
+fn run(rt: &HostRuntime) -> Result<(), Failed> {
+    obey(rt, &words(rt)?)
+}
+
+// The status alone says that the program failed, since it has said why.
+fn main(rt: HostRuntime) -> ExitCode {
+    match run(&rt) {
+        Ok(()) => ExitCode::SUCCESS,
+        Err(Failed) => ExitCode::FAILURE,
+    }
 }
