@@ -38,7 +38,7 @@ fn rule_184(rt: HostRuntime) -> Result<(), Fail> {
     );
     assert_eq!(rt; header.letter_count(), Some(8));
     assert_eq!(rt; header.entry_count(), Some(2));
-    assert_eq!(rt; &letters[0..9], &[0, 0, 0, 1, 1, 1, 0, 1, 7]);
+    assert_eq!(rt; &letters[0..9], [0, 0, 0, 1, 1, 1, 0, 1, 7].as_slice());
     assert_eq!(rt;
         entries[1],
         Entry {
@@ -57,7 +57,7 @@ fn the_rest_is_handed_on(rt: HostRuntime) -> Result<(), Fail> {
     let mut entries = [NONE; STRIP];
     let (header, rest) = read_preset(&input, &mut letters, &mut entries)?;
     assert_eq!(rt; header.kind, 3);
-    assert_eq!(rt; rest, &[0x80, 0x80]);
+    assert_eq!(rt; rest, [0x80, 0x80].as_slice());
     assert_eq!(rt;
         entries[0],
         Entry {
