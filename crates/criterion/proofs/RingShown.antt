@@ -1,5 +1,5 @@
 -- The ring that shows a failing word, as it is computed. Assumes nothing.
-use Rattle.std.proofs.Common.{◌≡◌, ℕ, zero, ◌+◌, ◌-◌, ◌*◌, ◌≤◌, Bool, cond, List, ◌++◌, length, take, drop, replicate, Ok, Err, Decides, Result, sym, ap, ◌∙◌, subst, ap₂, arith}
+use Rattle.std.proofs.Common.{◌≡◌, ℕ, ◌+◌, ◌-◌, ◌*◌, ◌≤◌, Bool, cond, List, ◌++◌, length, take, drop, replicate, Ok, Err, Decides, Result, sym, ap, ◌∙◌, subst, ap₂, arith}
 use lib.Seq.{take-append-add}
 use Rattle.std.proofs.lemmas.List.{drop-replicate, take-replicate, take_rest}
 use Rattle.fault.specs.Answers.{and_then, front}

@@ -1,5 +1,5 @@
 use Rattle.std.proofs.Common.{◌≡◌, length, sym, ap, ◌∙◌, true-eqb, false-eqb}
-use Rattle.console.specs.Words.{front, after, words}
+use Rattle.console.specs.Words.{front, after}
 use Rattle.console.specs.declared.words.Class.TheVariants.{Blank, NotBlank}
 use Rattle.console.proofs.Cuts.{words_none, words-some, words_shorter}
 use Rattle.console.proofs.words.first_word.Goals as goal
