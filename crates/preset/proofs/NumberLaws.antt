@@ -7,7 +7,7 @@ use Rattle.std.proofs.ByRecursion.{All-take}
 use Rattle.std.proofs.lemmas.List.{length-map, length_push, map_push, take_at, drop_at, take_all, take-take, take_more, take-append-drop, length-take-le, drop_more}
 use Rattle.std.proofs.lemmas.Bool.{cases_Bool, or_cases, or_parts, and_parts}
 use Rattle.std.proofs.lemmas.Bool.Decides.{nat_tests, leb_tells}
-use Rattle.std.specs.Int.Digits.{digits_of as digitsOf, number_from_digits_after, number_from_digits as number_of, AllBelowBase}
+use Rattle.std.specs.Int.Digits.{digits_of as digits, number_from_digits_after, number_from_digits as number_of, AllBelowBase}
 use Rattle.std.specs.List.{AllByRecursion as All}
 use Rattle.fault.specs.declared.Stop.TheVariants.{CutShort, Misspelt}
 use Rattle.fault.specs.Refusals.{refused_at}
@@ -81,14 +81,14 @@ lead : (ds : List ℕ) (r : ℕ) (rest : List ℕ) → r < 128 → (0 < length d
 lead [] r rest h k e = omega arith
 lead (d ∷ ds) r rest h k e = let q : 0 < d = k (omega arith) in omega arith
 
-some-digits : (n : ℕ) → 0 < length (digitsOf 128 n) → 0 < n
+some-digits : (n : ℕ) → 0 < length (digits 128 n) → 0 < n
 some-digits zero h = h
 some-digits (suc n) h = omega arith
 
 pub reads-back : NumberReadsBack
 reads-back place v rest small =
     let high = v / 128 in
-    let ds = digitsOf 128 high in
+    let ds = digits 128 high in
     let hs = map (λ d. 128 + d) ds in
     let r = v % 128 in
     let rl : r < 128 = mod_below v 128 (omega arith) in
@@ -134,19 +134,19 @@ well bs m =
       small = λ f. let s = b.1 in grind (arith, nat_tests);
     }
 
-digits_after : (h : ℕ) (ds : List ℕ) → 0 < h → AllBelowBase 128 ds → digitsOf 128 (number_from_digits_after 128 h ds) ≡ digitsOf 128 h ++ ds
-digits_after h [] k u = sym (append-nil (digitsOf 128 h))
+digits_after : (h : ℕ) (ds : List ℕ) → 0 < h → AllBelowBase 128 ds → digits 128 (number_from_digits_after 128 h ds) ≡ digits 128 h ++ ds
+digits_after h [] k u = sym (append-nil (digits 128 h))
 digits_after h (d ∷ ds) k u =
     let n = h * 128 + d in
     let a = digits_after n ds (omega arith) u.1 in
     let s = digits_of_step 128 n (omega arith) (omega arith) in
     let q : n / 128 ≡ h = div-mul-add h 128 d u.0 in
     let r : n % 128 ≡ d = mod-mul-add h 128 d u.0 in
-    let t = append_assoc (digitsOf 128 h) (d ∷ []) ds in
+    let t = append_assoc (digits 128 h) (d ∷ []) ds in
     cc
 
 -- the digits of a number that does not begin with 0
-digits_of : (ds : List ℕ) → AllBelowBase 128 ds → (0 < length ds → 0 < get_or ds 0 0) → digitsOf 128 (number_of 128 ds) ≡ ds
+digits_of : (ds : List ℕ) → AllBelowBase 128 ds → (0 < length ds → 0 < get_or ds 0 0) → digits 128 (number_of 128 ds) ≡ ds
 digits_of [] u k = refl
 digits_of (d ∷ ds) u k =
     let z : 0 * 128 + d ≡ d = omega arith in
