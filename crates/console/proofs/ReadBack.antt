@@ -7,7 +7,7 @@ use Rattle.std.proofs.lemmas.Bool.{true≢false, and_parts, not-true, ne_eqb, lt
 use Rattle.std.proofs.lemmas.Bool.Decides.{nat_tests}
 use Rattle.std.specs.Char.{is_ascii_digit}
 use Rattle.std.specs.Fmt.{signed_decimal}
-use Rattle.std.specs.List.{AllByRecursion as All}
+use Rattle.std.specs.List.{AllByRecursion}
 use Rattle.std.specs.Str.{all_ascii_digits}
 use Rattle.charge.specs.declared.kind.ChargeKind.{ChargeKind}
 use Rattle.charge.specs.declared.kind.ChargeKind.TheVariants.{Voices, Pitch, Channels, Both}
@@ -34,7 +34,7 @@ use Rattle.console.proofs.Reading.{row_is, word-is, value-is, ending-is}
 
 -- bytes that are all of a class
 abbrev pub Of : Class → List ℕ → Type 0
-Of class w = All (λ b. belongs class b ≡ true) w
+Of class w = AllByRecursion (λ b. belongs class b ≡ true) w
 
 of-append : (class : Class) (w v : List ℕ) → Of class w → Of class v → Of class (w ++ v)
 of-append class [] v h k = k
@@ -180,17 +180,17 @@ module _ {X : Type 0} (shows : X → List ℕ) where
   spaced_apart [] = tt
   spaced_apart (x ∷ xs) = refl
 
-  spaced_on-line : (xs : List X) → All (λ x. Word (shows x)) xs → Of NotNewline (spaced shows xs)
+  spaced_on-line : (xs : List X) → AllByRecursion (λ x. Word (shows x)) xs → Of NotNewline (spaced shows xs)
   spaced_on-line [] h = tt
   spaced_on-line (x ∷ xs) h = (refl, of-append NotNewline (shows x) (spaced shows xs) h.0.on_line (spaced_on-line xs h.1))
 
-  words-spaced : (xs : List X) → All (λ x. Word (shows x)) xs → words (spaced shows xs) ≡ map shows xs
+  words-spaced : (xs : List X) → AllByRecursion (λ x. Word (shows x)) xs → words (spaced shows xs) ≡ map shows xs
   words-spaced [] h = words-nil
   words-spaced (x ∷ xs) h =
       words-past-blank 32 (shows x ++ spaced shows xs) refl
       ∙ (words-front (shows x) (spaced shows xs) h.0 (spaced_apart xs) ∙ ap (λ ws. shows x ∷ ws) (words-spaced xs h.1))
 
-  each-shown : (reads : List ℕ → Option X) (expected : Expected) (line : ℕ) (xs : List X) → All (λ x. reads (shows x) ≡ Some x) xs → each reads expected line (map shows xs) ≡ Ok xs
+  each-shown : (reads : List ℕ → Option X) (expected : Expected) (line : ℕ) (xs : List X) → AllByRecursion (λ x. reads (shows x) ≡ Some x) xs → each reads expected line (map shows xs) ≡ Ok xs
   each-shown reads expected line [] h = refl
   each-shown reads expected line (x ∷ xs) h = rw (h.0, each-shown reads expected line xs h.1)
 
@@ -266,7 +266,7 @@ module _ (part : Part) (n : ℕ) (rest : List ℕ) where
       sym (value-is number part Number place (said w) (word-is part Number place (said (words (32 ∷ w))) (sym r) w one) v (sym (number-decimal v h)))
 
   module _ {X : Type 0} (shows : X → List ℕ) (reads : List ℕ → Option X) (expected : Expected) where
-    items-line : (xs : List X) → All (λ x. Word (shows x)) xs → All (λ x. reads (shows x) ≡ Some x) xs → items_row reads expected part (line_at (spaced shows xs)) ≡ Ok (said xs)
+    items-line : (xs : List X) → AllByRecursion (λ x. Word (shows x)) xs → AllByRecursion (λ x. reads (shows x) ≡ Some x) xs → items_row reads expected part (line_at (spaced shows xs)) ≡ Ok (said xs)
     items-line xs h k = rw (row_line (spaced shows xs) (spaced_on-line shows xs h) (spaced_apart shows xs), words-spaced shows xs h, each-shown shows reads expected (n + 1 + 1) xs k)
 
 -- the line of the kind, which is the first
@@ -303,7 +303,7 @@ bytes-line n v h =
     sym (ending-is place (record { passed = n + 1; text = text }) (sym is) some (said Bytes n [] v) (sym (number-line Bytes n [] v h)) (record { passed = n + 1 + 1; text = [] }) refl refl)
 
 -- the page
-each_all : {X : Type 0} {P Q : X → Type 0} → ((x : X) → P x → Q x) → (xs : List X) → All P xs → All Q xs
+each_all : {X : Type 0} {P Q : X → Type 0} → ((x : X) → P x → Q x) → (xs : List X) → AllByRecursion P xs → AllByRecursion Q xs
 each_all f [] h = tt
 each_all f (x ∷ xs) h = (f x h.0, each_all f xs h.1)
 

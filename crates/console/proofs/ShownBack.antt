@@ -1,7 +1,7 @@
 -- What is shown of a preset is encoded as its bytes again. Assumes nothing.
 use Rattle.std.proofs.Common.{◌≡◌, ℕ, ◌^◌, ◌<◌, ◌≤◌, true, false, ltb, List, [], ◌∷◌, length, ℤ, pos, negsuc, nat_abs, Ok, sym, refl, ap, ◌∙◌, arith, ltb-true, eq-eqb, eqb-true, le-leb}
 use Rattle.std.proofs.lemmas.Bool.{and_parts}
-use Rattle.std.specs.List.{AllByRecursion as All}
+use Rattle.std.specs.List.{AllByRecursion}
 use Rattle.charge.specs.Ranges.{voices_range}
 use Rattle.charge.specs.declared.kind.ChargeKind.{ChargeKind}
 use Rattle.charge.specs.declared.kind.ChargeKind.TheVariants.{Voices, Pitch, Channels, Both}
@@ -34,11 +34,11 @@ of-kind Pitch e f = let b = and_parts _ _ f in let h = ltb-true e.plain 12 b.1 i
 of-kind Channels e f = let b = and_parts _ _ f in let h = ltb-true e.plain (2 ^ 16) b.1 in (signed-zero e.signed b.0, omega arith)
 of-kind Both e f = let b = and_parts _ _ f in let h = ltb-true e.plain 12 b.1 in (signed_small e.signed b.0, omega arith)
 
-entries_of-kind : (kind : ChargeKind) (es : List Entry) → All (λ e. fits kind e ≡ true) es → All (OfKind kind) es
+entries_of-kind : (kind : ChargeKind) (es : List Entry) → AllByRecursion (λ e. fits kind e ≡ true) es → AllByRecursion (OfKind kind) es
 entries_of-kind kind [] u = tt
 entries_of-kind kind (e ∷ es) u = (of-kind kind e u.0, entries_of-kind kind es u.1)
 
-letters_small : (q : ℕ) → q < 9 → (xs : List ℕ) → All (λ x. ltb x q ≡ true) xs → All (λ x. x < 256) xs
+letters_small : (q : ℕ) → q < 9 → (xs : List ℕ) → AllByRecursion (λ x. ltb x q ≡ true) xs → AllByRecursion (λ x. x < 256) xs
 letters_small q h [] u = tt
 letters_small q h (x ∷ xs) u = let k = ltb-true x q u.0 in (omega arith, letters_small q h xs u.1)
 

@@ -1,6 +1,6 @@
 -- What is written as a page is read as the same preset. Assumes nothing.
 use Rattle.std.specs.Prelude.{◌≡◌, ℕ, ◌<◌, List, pos, Ok, unsigned_abs}
-use Rattle.std.specs.List.{AllByRecursion as All}
+use Rattle.std.specs.List.{AllByRecursion}
 use Rattle.charge.specs.Numbers.{number_of}
 use Rattle.charge.specs.declared.kind.ChargeKind.{ChargeKind}
 use Rattle.charge.specs.declared.kind.ChargeKind.TheVariants.{Voices, Pitch, Channels, Both}
@@ -24,8 +24,8 @@ pub record Holdable (kind : ChargeKind) (header : Header) (letters : List ℕ) (
   pub n : header.n < number_end
   pub l : header.l < number_end
   pub k : header.k < number_end
-  pub letter : All (λ x. x < 256) letters
-  pub entry : All (OfKind kind) entries
+  pub letter : AllByRecursion (λ x. x < 256) letters
+  pub entry : AllByRecursion (OfKind kind) entries
   pub count : bytes < number_end
 
 -- a page of eight lines

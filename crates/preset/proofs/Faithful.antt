@@ -4,7 +4,7 @@ use borrow.Author.Tests.{eqb-false}
 use Rattle.std.proofs.ByRecursion.{All-drop}
 use Rattle.std.proofs.lemmas.List.{drop_at}
 use Rattle.std.proofs.lemmas.Bool.{and_parts, and_from, cases_Bool}
-use Rattle.std.specs.List.{AllByRecursion as All}
+use Rattle.std.specs.List.{AllByRecursion}
 use Rattle.fault.specs.declared.Stop.{Stop}
 use Rattle.fault.specs.declared.Stop.TheVariants.{BadEntry}
 use Rattle.charge.specs.declared.kind.ChargeKind.{ChargeKind}
@@ -35,12 +35,12 @@ pub record Faithful {X : Type 0} (read : List ℕ → Answer X) (sends : X → L
 
 -- the same for many items
 module _ {X : Type 0} (read : List ℕ → Answer X) (sends : X → List ℕ) (Good : X → Type 0) (one : Faithful read sends Good) where
-  pub many-back : (xs : List X) (rest : List ℕ) → All Good xs → many read (length xs) (sent sends xs ++ rest) ≡ Ok (xs, rest)
+  pub many-back : (xs : List X) (rest : List ℕ) → AllByRecursion Good xs → many read (length xs) (sent sends xs ++ rest) ≡ Ok (xs, rest)
   many-back [] rest u = refl
   many-back (x ∷ xs) rest u = rw (append_assoc, one.back x (sent sends xs ++ rest) u.0, many-back xs rest u.1)
 
   pub record Sent (n : ℕ) (bs : List ℕ) (xs : List X) (rest : List ℕ) : Type 0 where
-    pub good : All Good xs
+    pub good : AllByRecursion Good xs
     pub count : length xs ≡ n
     pub so : bs ≡ sent sends xs ++ rest
 

@@ -8,7 +8,7 @@ use Rattle.std.proofs.lemmas.List.{length-map, length_push, map_push, take_at, d
 use Rattle.std.proofs.lemmas.Bool.{cases_Bool, or_cases, or_parts, and_parts}
 use Rattle.std.proofs.lemmas.Bool.Decides.{nat_tests, leb_tells}
 use Rattle.std.specs.Int.Digits.{digits_of as digits, number_from_digits_after, number_from_digits as number_of, AllBelowBase}
-use Rattle.std.specs.List.{AllByRecursion as All}
+use Rattle.std.specs.List.{AllByRecursion}
 use Rattle.fault.specs.declared.Stop.TheVariants.{CutShort, Misspelt}
 use Rattle.fault.specs.Refusals.{refused_at}
 use Rattle.preset.specs.Answers.{Answer}
@@ -24,7 +24,7 @@ tops_le : (bs : List ℕ) → tops bs ≤ length bs
 tops_le [] = omega arith
 tops_le (b ∷ bs) = let h = tops_le bs in grind (arith, nat_tests)
 
-tops_all : (bs : List ℕ) → All Top (take (tops bs) bs)
+tops_all : (bs : List ℕ) → AllByRecursion Top (take (tops bs) bs)
 tops_all [] = tt
 tops_all (b ∷ bs) =
     elim (leb_tells (suc b) 128) [
@@ -41,11 +41,11 @@ tops-stop (b ∷ bs) h =
     ]
 
 -- bytes with their top bit set come first
-tops-front : (hs ys : List ℕ) → All Top hs → tops (hs ++ ys) ≡ length hs + tops ys
+tops-front : (hs ys : List ℕ) → AllByRecursion Top hs → tops (hs ++ ys) ≡ length hs + tops ys
 tops-front [] ys u = omega arith
 tops-front (b ∷ hs) ys u = rw (le-ltb b 128 u.0) (omega (arith, tops-front hs ys u.1))
 
-tops_last : (hs : List ℕ) (r : ℕ) (rest : List ℕ) → All Top hs → r < 128 → tops (hs ++ (r ∷ rest)) ≡ length hs
+tops_last : (hs : List ℕ) (r : ℕ) (rest : List ℕ) → AllByRecursion Top hs → r < 128 → tops (hs ++ (r ∷ rest)) ≡ length hs
 tops_last hs r rest u h = let z : tops (r ∷ rest) ≡ 0 = rw (lt-ltb r 128 h) in omega (arith, tops-front hs (r ∷ rest) u)
 
 take_last : (hs : List ℕ) (r : ℕ) (rest : List ℕ) → take (length hs + 1) (hs ++ (r ∷ rest)) ≡ hs ++ (r ∷ [])
@@ -69,7 +69,7 @@ groups_of (d ∷ ds) u =
     let f = groups_of ds u.1 in
     cc
 
-tops_of : (ds : List ℕ) → All Top (map (λ d. 128 + d) ds)
+tops_of : (ds : List ℕ) → AllByRecursion Top (map (λ d. 128 + d) ds)
 tops_of [] = tt
 tops_of (d ∷ ds) = (omega arith, tops_of ds)
 
@@ -158,7 +158,7 @@ digits_of (d ∷ ds) u k =
     cc
 
 -- bytes with their top bit set are their groups with 128 added
-tops_are : (hs : List ℕ) → All Top hs → All (λ b. b < 256) hs → map (λ d. 128 + d) (map (λ b. b % 128) hs) ≡ hs
+tops_are : (hs : List ℕ) → AllByRecursion Top hs → AllByRecursion (λ b. b < 256) hs → map (λ d. 128 + d) (map (λ b. b % 128) hs) ≡ hs
 tops_are [] u k = refl
 tops_are (b ∷ hs) u k =
     let e : 128 + b % 128 ≡ b = omega arith in
@@ -170,12 +170,12 @@ under_groups [] = tt
 under_groups (b ∷ hs) = (mod_below b 128 (omega arith), under_groups hs)
 
 -- bytes that do not begin with 80 hexadecimal have no leading group of zeros
-leads : (hs : List ℕ) (ys : List ℕ) → All Top hs → All (λ b. b < 256) hs → (get_or (hs ++ ys) 0 0 ≡ 128 → ⊥) → 0 < length (map (λ b. b % 128) hs) → 0 < get_or (map (λ b. b % 128) hs) 0 0
+leads : (hs : List ℕ) (ys : List ℕ) → AllByRecursion Top hs → AllByRecursion (λ b. b < 256) hs → (get_or (hs ++ ys) 0 0 ≡ 128 → ⊥) → 0 < length (map (λ b. b % 128) hs) → 0 < get_or (map (λ b. b % 128) hs) 0 0
 leads [] ys u k n h = h
 leads (b ∷ hs) ys u k n h = omega arith
 
 -- bytes that spell a number are its spelling
-spelt-so : (hs : List ℕ) (r : ℕ) (ys : List ℕ) → All Top hs → All (λ b. b < 256) hs → r < 128 → (get_or (hs ++ ys) 0 0 ≡ 128 → ⊥) → spell (value (hs ++ (r ∷ []))) ≡ hs ++ (r ∷ [])
+spelt-so : (hs : List ℕ) (r : ℕ) (ys : List ℕ) → AllByRecursion Top hs → AllByRecursion (λ b. b < 256) hs → r < 128 → (get_or (hs ++ ys) 0 0 ≡ 128 → ⊥) → spell (value (hs ++ (r ∷ []))) ≡ hs ++ (r ∷ [])
 spelt-so hs r ys u k h n =
     let ds = map (λ b. b % 128) hs in
     let low : r % 128 ≡ r = omega arith in

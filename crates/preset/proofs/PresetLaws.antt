@@ -4,7 +4,7 @@ use Rattle.std.proofs.lemmas.List.{take_all, length-take-le}
 use Rattle.std.proofs.lemmas.Bool.{and_parts}
 use Rattle.std.proofs.lemmas.Bool.Decides.{nat_tests}
 use Rattle.std.specs.Option.{ok_or, option_map}
-use Rattle.std.specs.List.{AllByRecursion as All}
+use Rattle.std.specs.List.{AllByRecursion}
 use Rattle.fault.specs.declared.Stop.{Stop}
 use Rattle.fault.specs.declared.Stop.TheVariants.{UnknownKind, ShortStrip, TooManyWords, BadAlphabet, BadWindow, BadReach, BadWidth, BadLetter, BadEntry}
 use Rattle.fault.specs.Limits.{most_window, most_width, most_words, few_words}
@@ -68,7 +68,7 @@ then_rest : (b : Bool) (r : Result (Unit {0}) Refusal) (f : Refusal) → cond b 
 then_rest true r f e = (refl, e)
 then_rest false r f e = never e
 
-passed : (ts : List (Bool × Stop)) → tested ts ≡ Ok tt → All (λ t. t.0 ≡ true) ts
+passed : (ts : List (Bool × Stop)) → tested ts ≡ Ok tt → AllByRecursion (λ t. t.0 ≡ true) ts
 passed [] e = tt
 passed (t ∷ ts) e = let s = then_rest t.0 (tested ts) (refused_at t.1 0) e in (s.0, passed ts s.1)
 
@@ -90,13 +90,13 @@ sized_from h e =
     }
 
 -- each item is allowed
-fits_from : {X : Type 0} (ok : X → Bool) (stop : Stop) (i : ℕ) (xs : List X) → each_fits ok stop i xs ≡ Ok tt → All (λ x. ok x ≡ true) xs
+fits_from : {X : Type 0} (ok : X → Bool) (stop : Stop) (i : ℕ) (xs : List X) → each_fits ok stop i xs ≡ Ok tt → AllByRecursion (λ x. ok x ≡ true) xs
 fits_from ok stop i [] e = tt
 fits_from ok stop i (x ∷ xs) e =
     let s = then_rest (ok x) (each_fits ok stop (i + 1) xs) (refused_at stop i) e in
     (s.0, fits_from ok stop (i + 1) xs s.1)
 
-fits_to : {X : Type 0} (ok : X → Bool) (stop : Stop) (i : ℕ) (xs : List X) → All (λ x. ok x ≡ true) xs → each_fits ok stop i xs ≡ Ok tt
+fits_to : {X : Type 0} (ok : X → Bool) (stop : Stop) (i : ℕ) (xs : List X) → AllByRecursion (λ x. ok x ≡ true) xs → each_fits ok stop i xs ≡ Ok tt
 fits_to ok stop i [] u = refl
 fits_to ok stop i (x ∷ xs) u = rw u.0 (fits_to ok stop (i + 1) xs u.1)
 
@@ -106,8 +106,8 @@ pub record Good (p : Preset) : Type 0 where
   pub sized : Sized p.head.header
   pub letter_count : length p.letters ≡ p.head.header.q ^ p.head.header.n
   pub entry_count : length p.entries ≡ p.head.header.q ^ p.head.header.k
-  pub letters_fit : All (λ x. ltb x p.head.header.q ≡ true) p.letters
-  pub entries_fit : All (λ e. fits p.head.kind e ≡ true) p.entries
+  pub letters_fit : AllByRecursion (λ x. ltb x p.head.header.q ≡ true) p.letters
+  pub entries_fit : AllByRecursion (λ e. fits p.head.kind e ≡ true) p.entries
 
 -- a header that passed, with the kind that it names
 head_from : (h : Header) (head : Head) → head_checked h ≡ Ok head → (head.header ≡ h) × (kind_of h.kind ≡ Some head.kind) × Sized h
@@ -137,8 +137,8 @@ good_from h letters entries p e =
       sized = rw f.0 f.2;
       letter_count = length-take-le (head.header.q ^ head.header.n) letters (leb-true _ _ room.0);
       entry_count = length-take-le (head.header.q ^ head.header.k) entries (leb-true _ _ room.1);
-      letters_fit = subst (λ (x : Preset). All (λ y. ltb y x.head.header.q ≡ true) x.letters) (sym s.1) (fits_from (λ x. ltb x b.0.head.header.q) BadLetter 0 b.0.letters d.1);
-      entries_fit = subst (λ (x : Preset). All (λ y. fits x.head.kind y ≡ true) x.entries) (sym s.1) (fits_from (fits b.0.head.kind) BadEntry 0 b.0.entries d.2);
+      letters_fit = subst (λ (x : Preset). AllByRecursion (λ y. ltb y x.head.header.q ≡ true) x.letters) (sym s.1) (fits_from (λ x. ltb x b.0.head.header.q) BadLetter 0 b.0.letters d.1);
+      entries_fit = subst (λ (x : Preset). AllByRecursion (λ y. fits x.head.kind y ≡ true) x.entries) (sym s.1) (fits_from (fits b.0.head.kind) BadEntry 0 b.0.entries d.2);
     } in
     rw (sym is) g
 
@@ -180,11 +180,11 @@ header-reads whole head tail named s =
     ap (head_read whole) (five (spell h.kind) (spell h.q) (spell h.n) (spell h.l) (spell h.k) tail) ∙ sym done
 
 -- a letter is a small number
-letter-within : (whole q : ℕ) → q < 9 → (xs : List ℕ) → All (λ x. ltb x q ≡ true) xs → All (λ x. (0 ≤ x) × (x < q) × (x ≤ number_limit)) xs
+letter-within : (whole q : ℕ) → q < 9 → (xs : List ℕ) → AllByRecursion (λ x. ltb x q ≡ true) xs → AllByRecursion (λ x. (0 ≤ x) × (x < q) × (x ≤ number_limit)) xs
 letter-within whole q h [] u = tt
 letter-within whole q h (x ∷ xs) u = let k = ltb-true x q u.0 in ((omega arith, k, omega arith), letter-within whole q h xs u.1)
 
-within-letter : (q : ℕ) (xs : List ℕ) → All (λ x. (0 ≤ x) × (x < q) × (x ≤ number_limit)) xs → All (λ x. ltb x q ≡ true) xs
+within-letter : (q : ℕ) (xs : List ℕ) → AllByRecursion (λ x. (0 ≤ x) × (x < q) × (x ≤ number_limit)) xs → AllByRecursion (λ x. ltb x q ≡ true) xs
 within-letter q [] u = tt
 within-letter q (x ∷ xs) u = (lt-ltb x q u.0.1, within-letter q xs u.1)
 

@@ -1,6 +1,6 @@
 -- What presets promise beyond a single call. Assumes nothing.
 use Rattle.std.specs.Prelude.{◌≡◌, ℕ, ◌<◌, List, ◌++◌, length, Some, Ok}
-use Rattle.std.specs.List.{AllByRecursion as All}
+use Rattle.std.specs.List.{AllByRecursion}
 use Rattle.fault.specs.Limits.{most_window, most_width}
 use Rattle.charge.specs.Numbers.{kind_of}
 use Rattle.preset.specs.declared.entry.Entry.{Entry}
@@ -9,7 +9,7 @@ use Rattle.preset.specs.Presets.{Preset, preset, counted, whole_preset}
 use Rattle.preset.specs.Writes.{checked, preset_bytes}
 
 abbrev pub Bytes : List ℕ → Type 0
-Bytes bs = All (λ b. b < 256) bs
+Bytes bs = AllByRecursion (λ b. b < 256) bs
 
 -- what is written reads back as its numbers, and any bytes after it are handed on
 abbrev pub PresetReadsBack : Type 0

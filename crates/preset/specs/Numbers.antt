@@ -2,7 +2,7 @@
 -- its top bit set. Assumes nothing.
 use Rattle.std.specs.Prelude.{◌≡◌, ℕ, suc, ◌+◌, ◌/◌, ◌%◌, ◌<◌, ◌≤◌, Bool, cond, ◌&&◌, ◌||◌, List, [], ◌∷◌, ◌++◌, map, length, take, drop, Ok, Err, Result, ◌==◌, nat_le, nat_lt, slice_index, slice_index_or}
 use Rattle.std.specs.Int.Digits.{digits_of, number_from_digits as number_of}
-use Rattle.std.specs.List.{AllByRecursion as All}
+use Rattle.std.specs.List.{AllByRecursion}
 use Rattle.fault.specs.declared.Stop.TheVariants.{CutShort, Misspelt, ShortStrip}
 use Rattle.fault.specs.Refusals.{Refusal, refused_at}
 use Rattle.fault.specs.Answers.{and_then, over}
@@ -55,7 +55,7 @@ number place bs =
 -- Bytes that are cut short: each has its top bit set, there are at most four, and the first is not 80
 -- hexadecimal.
 pub record IsCutShort (bs : List ℕ) : Type 0 where
-  pub unfinished : All (λ b. 128 ≤ b) bs
+  pub unfinished : AllByRecursion (λ b. 128 ≤ b) bs
   pub few : length bs < most_bytes
   pub first_byte : slice_index_or bs 0 0 ≡ 128 → ⊥
 
@@ -64,9 +64,9 @@ pub data Misspelling (bs : List ℕ) : Type 0 where
   -- the first byte is 80 hexadecimal
   leading : (rest : List ℕ) → bs ≡ 128 ∷ rest → Misspelling bs
   -- five bytes have their top bit set
-  long : (front rest : List ℕ) → bs ≡ front ++ rest → length front ≡ most_bytes → All (λ b. 128 ≤ b) front → Misspelling bs
+  long : (front rest : List ℕ) → bs ≡ front ++ rest → length front ≡ most_bytes → AllByRecursion (λ b. 128 ≤ b) front → Misspelling bs
   -- the finished value is over the limit
-  large : (front : List ℕ) (last : ℕ) (rest : List ℕ) → bs ≡ front ++ (last ∷ rest) → All (λ b. 128 ≤ b) front → last < 128 → number_limit < value (front ++ (last ∷ [])) → Misspelling bs
+  large : (front : List ℕ) (last : ℕ) (rest : List ℕ) → bs ≡ front ++ (last ∷ rest) → AllByRecursion (λ b. 128 ≤ b) front → last < 128 → number_limit < value (front ++ (last ∷ [])) → Misspelling bs
 
 -- one statement exactly when another
 abbrev pub Exactly : Type 0 → Type 0 → Type 0
@@ -87,7 +87,7 @@ NumberReadsBack = (place v : ℕ) (rest : List ℕ) → v ≤ number_limit → n
 abbrev pub NumberSpellsBack : Type 0
 NumberSpellsBack =
     (place : ℕ) (bs : List ℕ) (v : ℕ) (rest : List ℕ)
-    → All (λ b. b < 256) bs → number place bs ≡ Ok (v, rest) → (v ≤ number_limit) × (bs ≡ spell v ++ rest)
+    → AllByRecursion (λ b. b < 256) bs → number place bs ≡ Ok (v, rest) → (v ≤ number_limit) × (bs ≡ spell v ++ rest)
 
 -- Writing a number from an index on: a value over the limit has no spelling, and the strip may be too short.
 abbrev pub spelling : List ℕ → ℕ → ℕ → Result (List ℕ) Refusal

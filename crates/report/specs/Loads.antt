@@ -1,6 +1,6 @@
 -- What is known of a preset that was read. Assumes nothing.
 use Rattle.std.specs.Prelude.{◌≡◌, ℕ, ◌≤◌, true, List, Ok}
-use Rattle.std.specs.List.{AllByRecursion as All}
+use Rattle.std.specs.List.{AllByRecursion}
 use Rattle.fault.specs.Limits.{least_letters, most_letters, most_window, most_width}
 use Rattle.charge.specs.declared.kind.ChargeKind.{ChargeKind}
 use Rattle.preset.specs.declared.entry.Entry.{Entry}
@@ -10,7 +10,7 @@ use Rattle.preset.specs.Presets.{Preset, whole_preset}
 
 -- the kind allows each entry
 abbrev pub Fitting : ChargeKind → List Entry → Type 0
-Fitting kind entries = All (λ e. fits kind e ≡ true) entries
+Fitting kind entries = AllByRecursion (λ e. fits kind e ≡ true) entries
 
 -- the entries fit, and the sizes are within their limits
 pub record Sound (kind : ChargeKind) (header : Header) (entries : List Entry) : Type 0 where
