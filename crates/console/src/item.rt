@@ -1,6 +1,6 @@
 // Letters and entries as words of a page.
 ghost use Rattle.std.specs.Prelude.{◌≡◌, ◌∷◌, ◌++◌, IfOk, string_bytes, decimal};
-ghost use Rattle.std.specs.Fmt.{signed_decimal as signedText};
+ghost use Rattle.std.specs.Fmt.{signed_decimal as signed_text};
 ghost use Rattle.charge.specs.declared.kind.ChargeKind.TheVariants.{Both};
 ghost use Rattle.console.specs.Forms.{Form, letter_form, entry_form, entry_text, paired};
 ghost use Rattle.console.specs.Forms.{entry as entry_of};
@@ -67,7 +67,7 @@ fn read_both(word: &[u8]) -> Option<Entry>
 }
 
 fn both_text(heap: Global, signed: i64, plain: u64) -> Result<String, AllocError>
-    ensures { IfOk result (λ s. string_bytes s ≡ signedText signed ++ (58 ∷ decimal plain)) }
+    ensures { IfOk result (λ s. string_bytes s ≡ signed_text signed ++ (58 ∷ decimal plain)) }
 {
     format!(in heap; "{signed}:{plain}")
 }

@@ -2,7 +2,7 @@
 ghost use Rattle.std.specs.Prelude.{◌≡◌, ◌<◌, length, IfSome};
 ghost use Rattle.std.specs.List.{prefix_len};
 ghost use Rattle.std.specs.Str.{bytes_eq};
-ghost use Rattle.console.specs.Words.{blank, belongs, front as frontOf, after as after_of, words as words_of, rejoined};
+ghost use Rattle.console.specs.Words.{blank, belongs, front as front_of, after as after_of, words as words_of, rejoined};
 
 // Which bytes a front of a text may have.
 #[derive(Clone, Copy)]
@@ -54,7 +54,7 @@ fn front_len(class: Class, text: &[u8]) -> usize
 
 // Cuts a text after the longest front whose bytes are all of the class.
 pub(crate) fn cut(class: Class, text: &[u8]) -> Split<'_>
-    ensures front { result.front.now ≡ frontOf class text.now }
+    ensures front { result.front.now ≡ front_of class text.now }
     ensures rest { result.rest.now ≡ after_of class text.now }
 {
     let (front, rest) = text.split_at(front_len(class, text));
