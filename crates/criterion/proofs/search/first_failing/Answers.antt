@@ -6,7 +6,6 @@ use Rattle.criterion.proofs.search.first_failing.Goals as goal
 pub code_of-code-requires : goal.code_of-code-requires
 code_of-code-requires g c =
     let K = g.C.Charge.kind in
-    let E = g.C.Charge.equality in
     let d = g.L.Label.labels K c.args.label.now in
     let weighed = g.L.Label.lawful K c.args.label.now in
     record { small = (omega (arith, weighed.sizes.1), omega (arith, heads-few d weighed)); within = (c.loop-head-test.true, c.loop-last-test.true) }
