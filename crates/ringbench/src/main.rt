@@ -2,6 +2,9 @@
 // crates `console` and `report`.
 #![tactic(auto)]
 
+ghost use Rattle.std.specs.Prelude.{◌≡◌, OnOk, OnErr};
+ghost use Rattle.std.specs.Process.{exit_status};
+
 use console::{encode_page, show_preset};
 use fault::Fault;
 use report::{Line, compare_line, crossings_page, judge_line};
@@ -176,10 +179,17 @@ fn run(rt: &HostRuntime) -> Result<(), Failed> {
     obey(rt, &words(rt)?)
 }
 
-// The status alone says that the program failed, since it has said why.
-fn main(rt: HostRuntime) -> ExitCode {
-    match run(&rt) {
+// The status that the program ends with. It alone says that the program failed, since the program has said why.
+fn status_of(outcome: Result<(), Failed>) -> ExitCode
+    ensures done { OnOk outcome (exit_status result ≡ 0) }
+    ensures failed { OnErr outcome (exit_status result ≡ 1) }
+{
+    match outcome {
         Ok(()) => ExitCode::SUCCESS,
         Err(Failed) => ExitCode::FAILURE,
     }
+}
+
+fn main(rt: HostRuntime) -> ExitCode {
+    status_of(run(&rt))
 }
