@@ -92,8 +92,8 @@ module _ {C : Type 0} (K : Kind C) (E : Equality K.group) (crossing_room ring_ro
       roomy true = found refl
       roomy false = refused (refused_at ShortStrip 0)
 
-  pub verdict-right : (r : Local) (d : Weights K.group.Carrier) → Lawful r → Weighed d → VerdictRight K r d (judge_found K E crossing_room ring_room r d)
-  verdict-right r d lawful weighed =
+  pub verdict_right : (r : Local) (d : Weights K.group.Carrier) → Lawful r → Weighed d → VerdictRight K r d (judge_found K E crossing_room ring_room r d)
+  verdict_right r d lawful weighed =
       found_in (VerdictRight K r d) (rule_label_list K.group r d) (bench_checked r d) (λ f. tt)
       (λ e. said (failure K E padding (rule_label_list K.group r d))
       (found_right K E r.q (r.n + d.k - 1) (rule_label K.group r d) (λ c. total K.group d (next r c)) (total K.group d) (2 * (r.n + d.k) - 3) (r.n + d.k - 2)
@@ -106,8 +106,8 @@ module _ {C : Type 0} (K : Kind C) (E : Equality K.group) (crossing_room ring_ro
       said None t = t
       said (Some f) t = t
 
-  pub comparison-right : (d e : Weights K.group.Carrier) → Weighed d → Weighed e → ComparisonRight K d e (compare_found K E crossing_room ring_room d e)
-  comparison-right d e weighed weighed' =
+  pub comparison_right : (d e : Weights K.group.Carrier) → Weighed d → Weighed e → ComparisonRight K d e (compare_found K E crossing_room ring_room d e)
+  comparison_right d e weighed weighed' =
       found_in (ComparisonRight K d e) (two_label_list K.group d e) (pair_checked d e) (λ f. tt)
       (λ t. said (failure K E padding (two_label_list K.group d e))
       (found_right K E d.q (max d.k e.k) (two_label K.group d e) (total K.group d) (total K.group e) (2 * max d.k e.k - 1) (max d.k e.k - 1)

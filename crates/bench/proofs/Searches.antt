@@ -18,7 +18,7 @@ use Rattle.bench.specs.Sized.{sized_rule, sized_density, first_sized, second_siz
 use Rattle.bench.specs.Verdicts.{Broken, broken, fitting, judge_found, compare_found}
 use Rattle.bench.specs.declared.sizes.RuleSizes.{RuleSizes}
 use Rattle.bench.specs.declared.sizes.TwoSizes.{TwoSizes}
-use Rattle.bench.proofs.Rights.{fits, label-sizes, verdict-right, comparison-right}
+use Rattle.bench.proofs.Rights.{fits, label-sizes, verdict_right, comparison_right}
 
 -- what a call on lent strips answers and leaves, by what is found and by the crossings
 pub record Left {C : Type 0} (K : Kind C) (found : Result (Option (ℕ × List ℕ)) Refusal) (all : List K.group.Carrier) (said : Result (Option (ℕ × ℕ)) Refusal) (old new : List C) (was now : List ℕ) : Type 0 where
@@ -117,7 +117,7 @@ module _ {C : Type 0} (K : Kind C) (E : Equality K.group) (a b : ℕ) (w n : ℕ
       let sizes = label-sizes r.q (r.n + d.k - 1) lawful.sizes.0 lawful.sizes.1 (omega (arith, lawful.sizes.2, weighed.sizes.2)) fit.1 in (
         shown_in r.q w n (judge_found K E a b r d) was strip e s
             (λ ring is.
-            let apart = subst (VerdictRight K r d) is (verdict-right K E a b r d lawful weighed) in
+            let apart = subst (VerdictRight K r d) is (verdict_right K E a b r d lawful weighed) in
             (apart.0, omega (arith, apart.1, sizes.3), apart.2)),
         fit.0,
       )
@@ -129,7 +129,7 @@ module _ {C : Type 0} (K : Kind C) (E : Equality K.group) (a b : ℕ) (w n : ℕ
       let fit = fits d.q e.q (max d.k e.k) (passed d.q e.q (max d.k e.k) _ _ c.1) in (
         shown_in d.q w n (compare_found K E a b d e) was strip h s
             (λ ring is.
-            let apart = subst (ComparisonRight K d e) is (comparison-right K E a b d e weighed weighed') in
+            let apart = subst (ComparisonRight K d e) is (comparison_right K E a b d e weighed weighed') in
             (apart.0, omega (arith, apart.1, weighed.sizes.3, weighed'.sizes.3), apart.2)),
         fit.0,
       )

@@ -82,8 +82,8 @@ module _ (d : Weights (Below (2 ^ 64))) where
 minus_small : (x y : ℤ) → nat_abs x ≤ 2 ^ 31 → nat_abs y ≤ 2 ^ 31 → nat_abs (minus integers x y) ≤ 2 ^ 32
 minus_small x y a b = omega (arith, nat_abs-minus x y)
 
-pub verdict-whole : VerdictWhole
-verdict-whole r d some inside narrow-rule wide narrow range =
+pub verdict_whole : VerdictWhole
+verdict_whole r d some inside narrow-rule wide narrow range =
     let m : ℕ = r.n + d.k - 2 in
     let width : r.n + d.k - 1 ≡ suc m = omega arith in
     let label : List ℕ → ℤ = rule_label integers r (whole d) in
@@ -103,8 +103,8 @@ verdict-whole r d some inside narrow-rule wide narrow range =
       λ keeps c long below. sym (total-means d (next r c)) ∙ ap voice_means (keeps c long below) ∙ total-means d c,
     )
 
-pub comparison-whole : ComparisonWhole
-comparison-whole d e some wide narrow wide' narrow' range range' =
+pub comparison_whole : ComparisonWhole
+comparison_whole d e some wide narrow wide' narrow' range range' =
     let m : ℕ = max d.k e.k - 1 in
     let width : max d.k e.k ≡ suc m = omega arith in
     let label : List ℕ → ℤ = two_label integers (whole d) (whole e) in

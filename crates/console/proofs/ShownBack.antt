@@ -11,7 +11,7 @@ use Rattle.preset.specs.Laws.{Bytes}
 use Rattle.preset.specs.Presets.{Preset, whole_preset}
 use Rattle.preset.specs.Writes.{preset_bytes}
 use Rattle.preset.proofs.Outcomes.{ok-is, and_ok}
-use Rattle.preset.proofs.PresetLaws.{whole-good, whole-so, preset-sizes}
+use Rattle.preset.proofs.PresetLaws.{whole-good, whole-so, preset_sizes}
 use Rattle.console.specs.Encodes.{encoded, bytes_of, counts_tested, most_preset, ShownEncodesBack}
 use Rattle.console.specs.Grammar.{Content, parsed}
 use Rattle.console.specs.Numbers.{number_end}
@@ -67,7 +67,7 @@ module _ (bs : List ℕ) (p : Preset) (u : Bytes bs) (small : length bs ≤ most
 
   counts : counts_tested held ≡ Ok tt
   counts =
-      let z = preset-sizes bs p u whole in
+      let z = preset_sizes bs p u whole in
       rw (z.1, z.2, eq-eqb (length p.letters) (length p.letters) refl, eq-eqb (length p.entries) (length p.entries) refl)
 
   written : bytes_of held ≡ Ok (preset_bytes p)
@@ -79,7 +79,7 @@ module _ (bs : List ℕ) (p : Preset) (u : Bytes bs) (small : length bs ≤ most
   back : encoded (page_of (length bs) p) ≡ Ok bs
   back = rw read (written ∙ ap (λ (xs : List ℕ). Ok xs) (sym (whole-so bs p u whole).1))
 
-pub shown_encodes-back : ShownEncodesBack
-shown_encodes-back bs page u small e =
+pub shown_encodes_back : ShownEncodesBack
+shown_encodes_back bs page u small e =
     let a = and_ok (whole_preset bs) (λ p. Ok (page_of (length bs) p)) page e in
     ap encoded (sym (ok-is a.2)) ∙ back bs a.0 u small a.1

@@ -92,8 +92,8 @@ module _ (G : Group) (z : ℕ) where
   no_cells d (x ∷ []) size = refl
   no_cells d (x ∷ (y ∷ w)) size = absurd (omega arith)
 
-  pub break-shown : BreakShown G z
-  break-shown d q r w some word fails =
+  pub break_shown : BreakShown G z
+  break_shown d q r w some word fails =
       (word_a z q r w some word, word_b z q r w some word, λ a. (long r word fails a, λ b. fails (balanced_from_rings d r w word.0 a b)))
     where
       long : (r : ℕ) → Word q (suc r) w → (Balanced G d r (crossing G d z r) w → ⊥) → ring_sum G d (suc r) (ring_a z r w) ≡ G.zero → 1 ≤ r

@@ -9,8 +9,8 @@ use Rattle.automaton.proofs.Codes.{word-word, every-word}
 use Rattle.criterion.specs.Balance.{ring_sum, Balanced, Holds, ring_a, ring_b, SumsToZero}
 use Rattle.criterion.specs.Search.{first_of, J, fails, failing, sums_to_zero, shown}
 use Rattle.criterion.specs.Laws.{Exact, BreakingRing, Shows, LabelLaw}
-use Rattle.criterion.proofs.Criterion.{criterion, break-shown}
-use Rattle.criterion.proofs.Uniqueness.{crossing-only, crossing-zero}
+use Rattle.criterion.proofs.Criterion.{criterion, break_shown}
+use Rattle.criterion.proofs.Uniqueness.{crossing_only, crossing_zero}
 use Rattle.criterion.proofs.Sizes.{some-letters, one_more}
 
 module _ (test : ℕ → Bool) where
@@ -89,7 +89,7 @@ module _ {C : Type 0} (K : Kind C) (E : Equality K.group) (z : ℕ) (d : Weights
 
   breaks : (w : List ℕ) → Word d.q (suc r) w → (Even w → ⊥) → BreakingRing K z d (shown K E z d w)
   breaks w is uneven =
-      let rings = break-shown K.group z label d.q r w some is uneven in
+      let rings = break_shown K.group z label d.q r w some is uneven in
       let more = one_more d weighed in
       let decided = E.decides (ring_sum K.group label d.k (ring_a z r w)) K.group.zero in
       cond_both (sums_to_zero K E d (ring_a z r w)) (ring_b z r w) (ring_a z r w) (BreakingRing K z d)
@@ -110,7 +110,7 @@ module _ {C : Type 0} (K : Kind C) (E : Equality K.group) (z : ℕ) (d : Weights
   shows : (o : Option ℕ) → failing K E z d ≡ o → Shows K z d (option_map found o)
   shows None e =
       let all = holds e in
-      (all, crossing-zero K.group z label d.q r some all, λ T balances nothing v is. crossing-only K.group z label T d.q r some balances nothing v is)
+      (all, crossing_zero K.group z label d.q r some all, λ T balances nothing v is. crossing_only K.group z label T d.q r some balances nothing v is)
   shows (Some c) e =
       let is = word-word d.q (some-letters d weighed) d.k c in
       breaks (word d.q d.k c) (is.0 ∙ sym (one_more d weighed), is.1)

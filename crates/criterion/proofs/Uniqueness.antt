@@ -33,8 +33,8 @@ module _ (z r : ℕ) (v : List ℕ) (j : ℕ) (h : j < r) where
       ap (λ n. drop 1 (repeated z n ++ take (suc j) v)) one_more
 
 module _ (G : Group) (z : ℕ) where
-  pub crossing-only : CrossingOnly G z
-  crossing-only d K q r some balances nothing v word =
+  pub crossing_only : CrossingOnly G z
+  crossing_only d K q r some balances nothing v word =
       let step : ℕ → G.Carrier = λ j. K (repeated z (r - j) ++ take j v) in
       let sums : heads G z d r v ≡ G.neg (K v) =
       sum_same G (λ j. d (repeated z (r - j) ++ take (suc j) v)) (λ j. minus G (step j) (step (suc j))) r
@@ -48,8 +48,8 @@ module _ (G : Group) (z : ℕ) where
       ∙ G.unit (G.neg (K v)) in
       sym (ap G.neg sums ∙ neg-neg G (K v))
 
-  pub crossing-zero : CrossingZero G z
-  crossing-zero d q r some holds =
+  pub crossing_zero : CrossingZero G z
+  crossing_zero d q r some holds =
       let J : List ℕ → G.Carrier = crossing G d z r in
       let at-z : d (repeated z (suc r)) ≡ G.zero =
       holds (repeated z (suc r)) (repeated-word q z (suc r) some)

@@ -18,7 +18,7 @@ use Rattle.preset.specs.Fields.{field}
 use Rattle.preset.specs.Items.{sent}
 use Rattle.preset.specs.Laws.{Bytes}
 use Rattle.preset.specs.Numbers.{number, number_limit, spell}
-use Rattle.preset.proofs.NumberLaws.{reads-back, spells-back}
+use Rattle.preset.proofs.NumberLaws.{number_reads_back, number_spells_back}
 use Rattle.preset.proofs.Outcomes.{and_ok, cond_ok, pair_0, pair_1}
 
 -- the bytes after a front are bytes
@@ -73,18 +73,18 @@ module _ (whole low end : ℕ) (stop : Stop) where
 
   pub field_faithful : Faithful (field whole low end stop) spell Within
   field_faithful = record {
-    back = λ v rest g. rw (reads-back (whole - length (spell v ++ rest)) v rest g.2, le-leb low v g.0, lt-ltb v end g.1);
+    back = λ v rest g. rw (number_reads_back (whole - length (spell v ++ rest)) v rest g.2, le-leb low v g.0, lt-ltb v end g.1);
     good = λ bs v rest u e.
         let s = and_ok (number (whole - length bs) bs) _ (v, rest) e in
         let c = cond_ok (leb low s.0.0 && ltb s.0.0 end) s.0 _ (v, rest) s.2 in
         let i : s.0.0 ≡ v = ap (λ (x : ℕ × List ℕ). x.0) c.1 in
         let b = and_parts (leb low s.0.0) (ltb s.0.0 end) c.0 in
-        let p = spells-back (whole - length bs) bs s.0.0 s.0.1 u s.1 in
+        let p = number_spells_back (whole - length bs) bs s.0.0 s.0.1 u s.1 in
         rw (sym i) (leb-true low s.0.0 b.0, ltb-true s.0.0 end b.1, p.0);
     so = λ bs v rest u e.
         let s = and_ok (number (whole - length bs) bs) _ (v, rest) e in
         let c = cond_ok (leb low s.0.0 && ltb s.0.0 end) s.0 _ (v, rest) s.2 in
-        let p = spells-back (whole - length bs) bs s.0.0 s.0.1 u s.1 in
+        let p = number_spells_back (whole - length bs) bs s.0.0 s.0.1 u s.1 in
         p.1 ∙ ap (λ (x : ℕ × List ℕ). spell x.0 ++ x.1) c.1;
   }
 
@@ -120,15 +120,15 @@ zag_range u h =
 -- the parts of an entry
 signed_faithful : (b : Bool) (whole : ℕ) → Faithful (signed_read b whole) (λ z. part_bytes (signed_number b z)) (λ z. signed_fits b z ≡ true)
 signed_faithful true whole = record {
-  back = λ z rest g. rw (reads-back (whole - length (spell (zig z) ++ rest)) (zig z) rest (zig_limit z g), zag-zig z);
+  back = λ z rest g. rw (number_reads_back (whole - length (spell (zig z) ++ rest)) (zig z) rest (zig_limit z g), zag-zig z);
   good = λ bs z rest u e.
       let s = and_ok (number (whole - length bs) bs) _ (z, rest) e in
-      let p = spells-back (whole - length bs) bs s.0.0 s.0.1 u s.1 in
+      let p = number_spells_back (whole - length bs) bs s.0.0 s.0.1 u s.1 in
       let i : zag s.0.0 ≡ z = pair_0 s.2 in
       rw (sym i) (zag_range s.0.0 p.0);
   so = λ bs z rest u e.
       let s = and_ok (number (whole - length bs) bs) _ (z, rest) e in
-      let p = spells-back (whole - length bs) bs s.0.0 s.0.1 u s.1 in
+      let p = number_spells_back (whole - length bs) bs s.0.0 s.0.1 u s.1 in
       let i : zag s.0.0 ≡ z = pair_0 s.2 in
       let j : s.0.1 ≡ rest = pair_1 s.2 in
       let k : zig z ≡ s.0.0 = ap zig (sym i) ∙ zig-zag s.0.0 in

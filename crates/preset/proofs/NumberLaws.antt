@@ -85,8 +85,8 @@ some-digits : (n : ℕ) → 0 < length (digits 128 n) → 0 < n
 some-digits zero h = h
 some-digits (suc n) h = omega arith
 
-pub reads-back : NumberReadsBack
-reads-back place v rest small =
+pub number_reads_back : NumberReadsBack
+number_reads_back place v rest small =
     let high = v / 128 in
     let ds = digits 128 high in
     let hs = map (λ d. 128 + d) ds in
@@ -203,8 +203,8 @@ distinct : {X : Type 0} (place : ℕ) → ◌≡◌ {A = Answer ℕ} (Err (refus
 unfolding code_in
 distinct place e = let z : ◌≡◌ {A = ℕ} 2 1 = ap code_in e in absurd (omega arith)
 
-pub spells-back : NumberSpellsBack
-spells-back place bs v rest u e =
+pub number_spells_back : NumberSpellsBack
+number_spells_back place bs v rest u e =
     elim (outcome place bs) [
       | bad m n ↦ never (sym n ∙ e)
       | cut m f n ↦ never (sym n ∙ e)

@@ -26,7 +26,7 @@ use Rattle.preset.specs.Presets.{Preset, counted, kind_read, head_read, letters_
 use Rattle.preset.specs.Writes.{size_tests, head_checked, fronts, strips_checked, contents_checked, checked, header_numbers, preset_bytes}
 use Rattle.preset.proofs.Faithful.{bytes_after, field_faithful, entry_faithful, many-back, many_sent}
 use Rattle.preset.proofs.Heads.{few-part, head_done, sizes_pass}
-use Rattle.preset.proofs.NumberLaws.{reads-back, spells-back}
+use Rattle.preset.proofs.NumberLaws.{number_reads_back, number_spells_back}
 use Rattle.preset.proofs.Outcomes.{never, ok-is, and_ok, cond_ok, pair_0, pair_1}
 use Rattle.preset.proofs.Scanning.{preset-is}
 
@@ -171,7 +171,7 @@ header-reads whole head tail named s =
     let bs = spell h.kind ++ r₁ in
     let small : h.kind ≤ number_limit = omega (arith, number_small head.kind) in
     let kind : kind_of h.kind ≡ Some head.kind = ap kind_of (sym named) ∙ number-kind head.kind in
-    let e₁ : kind_read whole bs ≡ Ok (head.kind, r₁) = rw (reads-back (whole - length bs) h.kind r₁ small, kind) in
+    let e₁ : kind_read whole bs ≡ Ok (head.kind, r₁) = rw (number_reads_back (whole - length bs) h.kind r₁ small, kind) in
     let e₂ = (field_faithful whole 2 9 BadAlphabet).back h.q r₂ (s.q₁, s.q₂, omega (arith, s.q₂)) in
     let e₃ = (field_faithful whole 1 13 BadWindow).back h.n r₃ (s.n₁, s.n₂, omega (arith, s.n₂)) in
     let e₄ = (field_faithful whole 0 h.n BadReach).back h.l r₄ (omega arith, s.l₁, omega (arith, s.l₁, s.n₂)) in
@@ -204,8 +204,8 @@ good-reads p rest g =
     preset-is bs (letters ++ (entries ++ rest)) (entries ++ rest) rest p.head p.letters p.entries
     (ap (head_read whole) joins ∙ header-reads whole p.head (letters ++ (entries ++ rest)) g.named g.sized) ls es
 
-pub preset-reads-back : PresetReadsBack
-preset-reads-back h letters entries p rest e = good-reads p rest (good_from h letters entries p e)
+pub preset_reads_back : PresetReadsBack
+preset_reads_back h letters entries p rest e = good-reads p rest (good_from h letters entries p e)
 
 -- What a header that was read is, and the bytes that it was read from.
 record HeaderSent (bs : List ℕ) (head : Head) (tail : List ℕ) : Type 0 where
@@ -216,7 +216,7 @@ record HeaderSent (bs : List ℕ) (head : Head) (tail : List ℕ) : Type 0 where
 kind-so : (whole : ℕ) (bs : List ℕ) (kind : ChargeKind) (rest : List ℕ) → Bytes bs → kind_read whole bs ≡ Ok (kind, rest) → bs ≡ spell (number_of kind) ++ rest
 kind-so whole bs kind rest u e =
     let s = and_ok (number (whole - length bs) bs) _ (kind, rest) e in
-    let p = spells-back (whole - length bs) bs s.0.0 s.0.1 u s.1 in
+    let p = number_spells_back (whole - length bs) bs s.0.0 s.0.1 u s.1 in
     let n = named-so (kind_of s.0.0) s.0.1 (refused_at UnknownKind (whole - length bs)) s.2 in
     let i = kind-number s.0.0 kind n.0 in
     p.1 ∙ ap₂ (λ (v : ℕ) (xs : List ℕ). spell v ++ xs) (sym i) n.1
@@ -309,8 +309,8 @@ preset-sent bs p rest u e =
         let made : PresetSent bs (record { head = head; letters = ls; entries = es }) r₃ = record { good = good; so = so } in
         rw (sym i, sym j) made
 
-pub preset_writes-back : PresetWritesBack
-preset_writes-back bs p rest u e = let s = preset-sent bs p rest u e in (checked_from p s.good, s.so)
+pub preset_writes_back : PresetWritesBack
+preset_writes_back bs p rest u e = let s = preset-sent bs p rest u e in (checked_from p s.good, s.so)
 
 -- a whole preset leaves no bytes
 whole_is : (bs : List ℕ) (p : Preset) → whole_preset bs ≡ Ok p → preset bs ≡ Ok (p, [])
@@ -328,18 +328,18 @@ whole-good bs p u e = (preset-sent bs p [] u (whole_is bs p e)).good
 
 pub whole-so : (bs : List ℕ) (p : Preset) → Bytes bs → whole_preset bs ≡ Ok p → (checked p.head.header p.letters p.entries ≡ Ok p) × (bs ≡ preset_bytes p)
 whole-so bs p u e =
-    let s = preset_writes-back bs p [] u (whole_is bs p e) in
+    let s = preset_writes_back bs p [] u (whole_is bs p e) in
     (s.0, s.1 ∙ append-nil (preset_bytes p))
 
-pub one-spelling : OneSpelling
-one-spelling bs cs p u v e f = (whole-so bs p u e).1 ∙ sym (whole-so cs p v f).1
+pub one_spelling : OneSpelling
+one_spelling bs cs p u v e f = (whole-so bs p u e).1 ∙ sym (whole-so cs p v f).1
 
 counted-some : (most q m count : ℕ) → 2 ≤ q → q < 9 → 1 ≤ m → m < suc most → q ^ m ≤ most_words → count ≡ q ^ m → counted most q m ≡ Some count
 counted-some most q m count q₁ q₂ m₁ m₂ few e =
     rw (le-leb 2 q q₁, lt-ltb q 9 q₂, le-leb 1 m m₁, lt-ltb m (suc most) m₂, le-leb (q ^ m) most_words few, e)
 
-pub preset-sizes : PresetSizes
-preset-sizes bs p u e =
+pub preset_sizes : PresetSizes
+preset_sizes bs p u e =
     let g = whole-good bs p u e in
     let h = p.head.header in
     let s = g.sized in (

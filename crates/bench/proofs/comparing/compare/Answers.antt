@@ -2,9 +2,9 @@ use Rattle.std.proofs.Common.{Ok, ap, ◌∙◌}
 use Rattle.std.proofs.lemmas.Result.{err_from_is_err_and}
 use Rattle.automaton.specs.Meanings.{total}
 use Rattle.bench.specs.Verdicts.{comparison_of}
-use Rattle.bench.proofs.Rights.{comparison-right}
+use Rattle.bench.proofs.Rights.{comparison_right}
 use Rattle.bench.proofs.Searches.{found_as}
-use Rattle.bench.proofs.Whole.{comparison-whole}
+use Rattle.bench.proofs.Whole.{comparison_whole}
 use Rattle.bench.proofs.comparing.compare.Goals as goal
 
 pub returns-in_err-found : goal.returns-in_err-found
@@ -18,8 +18,8 @@ returns-in_err-found g c =
       answer = found_as comparison_of (total K.group d) (total K.group d') _ _ e.answer;
       crossings = e.crossings;
       ring = e.ring;
-      right = comparison-right K g.C.Charge.equality _ _ d d' (g.D.Density.lawful K c.args.first.now) (g.E.Density.lawful K c.args.second.now);
-      whole = comparison-whole;
+      right = comparison_right K g.C.Charge.equality _ _ d d' (g.D.Density.lawful K c.args.first.now) (g.E.Density.lawful K c.args.second.now);
+      whole = comparison_whole;
     })
 
 pub returns : goal.returns
@@ -32,6 +32,6 @@ returns g c =
       answer = ap Ok c.likeness_of.ensures ∙ found_as comparison_of (total K.group d) (total K.group d') _ _ e.answer;
       crossings = e.crossings;
       ring = e.ring;
-      right = comparison-right K g.C.Charge.equality _ _ d d' (g.D.Density.lawful K c.args.first.now) (g.E.Density.lawful K c.args.second.now);
-      whole = comparison-whole;
+      right = comparison_right K g.C.Charge.equality _ _ d d' (g.D.Density.lawful K c.args.first.now) (g.E.Density.lawful K c.args.second.now);
+      whole = comparison_whole;
     }

@@ -1,9 +1,9 @@
 use Rattle.std.proofs.Common.{Ok, refl, ap, ◌∙◌}
 use Rattle.automaton.specs.Meanings.{next, total}
 use Rattle.bench.specs.Verdicts.{verdict_of}
-use Rattle.bench.proofs.Rights.{verdict-right}
+use Rattle.bench.proofs.Rights.{verdict_right}
 use Rattle.bench.proofs.Searches.{found_as}
-use Rattle.bench.proofs.Whole.{verdict-whole}
+use Rattle.bench.proofs.Whole.{verdict_whole}
 use Rattle.bench.proofs.state.Draft.judge.Goals as goal
 
 pub returns-in-Ok : goal.returns-in-Ok
@@ -17,8 +17,8 @@ returns-in-Ok g c =
       parts = c.verdict_of.ensures.parts;
       crossings = e.crossings;
       ring = e.ring;
-      right = verdict-right K g.C.Charge.equality _ _ r d (g.R.Rule.lawful c.args.self.parts.rule) (g.D.Density.lawful K c.args.self.parts.density);
-      whole = verdict-whole;
+      right = verdict_right K g.C.Charge.equality _ _ r d (g.R.Rule.lawful c.args.self.parts.rule) (g.D.Density.lawful K c.args.self.parts.density);
+      whole = verdict_whole;
     }
 
 pub returns-in-Err : goal.returns-in-Err
@@ -32,6 +32,6 @@ returns-in-Err g c =
       parts = refl;
       crossings = e.crossings;
       ring = e.ring;
-      right = verdict-right K g.C.Charge.equality _ _ r d (g.R.Rule.lawful c.args.self.parts.rule) (g.D.Density.lawful K c.args.self.parts.density);
-      whole = verdict-whole;
+      right = verdict_right K g.C.Charge.equality _ _ r d (g.R.Rule.lawful c.args.self.parts.rule) (g.D.Density.lawful K c.args.self.parts.density);
+      whole = verdict_whole;
     }
