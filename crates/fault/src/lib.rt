@@ -1,7 +1,9 @@
 // What a refusal is: a stop code and the place that it speaks of. Assumes nothing.
 #![tactic(auto)]
 
-ghost use Rattle.std.specs.Prelude.{◌≡◌, Some};
+ghost use Rattle.std.specs.Prelude.{◌≡◌, Some, [], ◌∷◌};
+ghost use Rattle.fault.specs.Answers.{plainly};
+ghost use Rattle.fault.specs.Checks.{tested};
 ghost use Rattle.fault.specs.Refusals.{code_of, reason_of, sentence};
 
 use std::fmt;
@@ -57,6 +59,20 @@ impl Stop {
             Stop::BadLetter => "a letter is not below the alphabet size",
             Stop::BadEntry => "an entry is outside the range of its kind",
         }
+    }
+
+    // The refusal with this stop code that speaks of a place.
+    pub fn at(self, place: usize) -> Fault
+        ensures { result ≡ record { stop = self; place = place } }
+    {
+        Fault { stop: self, place }
+    }
+
+    // Passes a test, or is the refusal where it fails, at place 0.
+    pub fn unless(self, test: bool) -> Result<(), Fault>
+        ensures { plainly result ≡ tested ((test, self) ∷ []) }
+    {
+        if test { Ok(()) } else { Err(self.at(0)) }
     }
 }
 
