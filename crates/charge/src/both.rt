@@ -6,7 +6,7 @@ use crate::pitch::Pitch;
 use crate::voices::Voices;
 
 // Each part is added by itself.
-#[derive(Clone, Copy)]
+#[derive(Clone, Copy, PartialEq, Eq, Debug)]
 pub struct Both {
     pub voices: Voices,
     pub pitch: Pitch,

@@ -7,7 +7,7 @@ use crate::Charge;
 // The number of sets of channels.
 pub const CHANNEL_SETS: u64 = 65_536;
 
-#[derive(Clone, Copy)]
+#[derive(Clone, Copy, PartialEq, Eq, Debug)]
 pub struct Channels {
     pub bits: u16,
 }

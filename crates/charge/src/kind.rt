@@ -1,39 +1,45 @@
 // The delivered kinds of charge and their numbers in presets.
 ghost use Rattle.std.specs.Prelude.{◌≡◌};
+ghost use Rattle.std.specs.Option.{ok_or};
 ghost use Rattle.charge.specs.Numbers.{number_of, kind_of};
 
-// Which of the delivered kinds a preset uses.
+// Which of the delivered kinds a preset uses, by its number there.
 #[derive(Clone, Copy, PartialEq, Eq, Debug)]
 pub enum ChargeKind {
-    Voices,
-    Pitch,
-    Channels,
-    Both,
+    Voices = 0,
+    Pitch = 1,
+    Channels = 2,
+    Both = 3,
 }
 
-impl ChargeKind {
-    // The kind's number in presets.
-    pub fn number(self) -> u64
-        ensures { result ≡ number_of self }
-    {
-        match self {
-            ChargeKind::Voices => 0,
-            ChargeKind::Pitch => 1,
-            ChargeKind::Channels => 2,
-            ChargeKind::Both => 3,
-        }
-    }
+// A number that no kind has.
+#[derive(Clone, Copy, PartialEq, Eq, Debug)]
+pub struct UnknownKind {
+    pub number: u64,
+}
 
-    // The kind that has a number, if any has.
-    pub fn from_number(number: u64) -> Option<ChargeKind>
-        ensures { result ≡ kind_of number }
-    {
+// The kind's number in presets.
+impl From<ChargeKind> for u64 {
+    ghost from_gives = { λ kind number. number ≡ number_of kind };
+
+    fn from(kind: ChargeKind) -> u64 {
+        kind as u64
+    }
+}
+
+// The kind that has a number, if any has.
+impl TryFrom<u64> for ChargeKind {
+    type Error = UnknownKind;
+
+    ghost try_from_gives = { λ number kind. kind ≡ ok_or (kind_of number) (record { number = number }) };
+
+    fn try_from(number: u64) -> Result<ChargeKind, UnknownKind> {
         match number {
-            0 => Some(ChargeKind::Voices),
-            1 => Some(ChargeKind::Pitch),
-            2 => Some(ChargeKind::Channels),
-            3 => Some(ChargeKind::Both),
-            _ => None,
+            0 => Ok(ChargeKind::Voices),
+            1 => Ok(ChargeKind::Pitch),
+            2 => Ok(ChargeKind::Channels),
+            3 => Ok(ChargeKind::Both),
+            _ => Err(UnknownKind { number }),
         }
     }
 }

@@ -12,7 +12,7 @@ mod voices;
 
 pub use both::Both;
 pub use channels::{CHANNEL_SETS, Channels};
-pub use kind::ChargeKind;
+pub use kind::{ChargeKind, UnknownKind};
 pub use pitch::{PITCH_CLASSES, Pitch};
 pub use voices::{LEAST_VOICES, MOST_VOICES, Voices};
 

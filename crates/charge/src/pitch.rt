@@ -9,7 +9,7 @@ mod adding;
 pub const PITCH_CLASSES: u8 = 12;
 
 // A pitch class. Its fields are private, so none above 11 can be made.
-#[derive(Clone, Copy)]
+#[derive(Clone, Copy, PartialEq, Eq, Debug)]
 pub struct Pitch {
     class: u8,
     ghost small: { class < pitch_end },

@@ -9,7 +9,7 @@ pub const LEAST_VOICES: i64 = -2_147_483_648;
 
 pub const MOST_VOICES: i64 = 2_147_483_647;
 
-#[derive(Clone, Copy)]
+#[derive(Clone, Copy, PartialEq, Eq, Debug)]
 pub struct Voices {
     pub count: i64,
 }
