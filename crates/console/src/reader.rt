@@ -69,7 +69,7 @@ pub fn parse(heap: Global, text: &[u8]) -> Result<Draft, TextError>
     Ok(Draft {
         kind: kind.value,
         header: Header {
-            kind: kind.value.number(),
+            kind: u64::from(kind.value),
             q: q.value,
             n: n.value,
             l: l.value,

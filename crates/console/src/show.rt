@@ -21,7 +21,7 @@ fn held_page(
     requires { Held input.now header letters.now entries.now }
     ensures { IfOk result (λ s. shown input.now ≡ Ok (string_bytes s)) }
 {
-    let Some(kind) = ChargeKind::from_number(header.kind) else {
+    let Ok(kind) = ChargeKind::try_from(header.kind) else {
         unreachable()
     };
     let Some(letter_count) = header.letter_count() else {

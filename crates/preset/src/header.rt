@@ -101,7 +101,7 @@ fn read_kind(whole: usize, input: &[u8]) -> Result<(ChargeKind, &[u8]), Fault>
 {
     let place = whole - input.len();
     let (number, rest) = read_number(input, place)?;
-    let Some(kind) = ChargeKind::from_number(number) else {
+    let Ok(kind) = ChargeKind::try_from(number) else {
         return Err(Fault {
             stop: Stop::UnknownKind,
             place,
@@ -136,7 +136,7 @@ pub(crate) fn read_head(input: &[u8]) -> Result<(Head, &[u8]), Fault>
         });
     }
     let header = Header {
-        kind: kind.number(),
+        kind: u64::from(kind),
         q,
         n,
         l,

@@ -64,7 +64,7 @@ fn check_head(header: Header) -> Result<Head, Fault>
     ensures lawful { IfOk result (λ h. Lawful header) }
     ensures same { IfOk result (λ h. h.header ≡ header) }
 {
-    let Some(kind) = ChargeKind::from_number(header.kind) else {
+    let Ok(kind) = ChargeKind::try_from(header.kind) else {
         return Err(Fault {
             stop: Stop::UnknownKind,
             place: 0,

@@ -109,7 +109,7 @@ fn compare_loaded(
     requires second { Sound second.kind second.header second.entries.now }
     ensures { IfOk result (ComparedAs (same_kind first.entry.kind second.entry.kind) first.entry.kind subject.now first.entry.header first.entry.entries.now second.entry.header second.entry.entries.now) }
 {
-    if first.kind.number() != second.kind.number() {
+    if first.kind != second.kind {
         return kinds_line(heap, subject);
     }
     compare_kind(heap, subject, first, second)

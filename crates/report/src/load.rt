@@ -23,7 +23,7 @@ pub(crate) fn cut<'a>(
     requires { Held input.now header letters.now entries.now }
     ensures { Loads input.now result.kind result.header result.letters.now result.entries.now }
 {
-    let Some(kind) = ChargeKind::from_number(header.kind) else {
+    let Ok(kind) = ChargeKind::try_from(header.kind) else {
         unreachable()
     };
     let Some(letter_count) = header.letter_count() else {

@@ -17,7 +17,7 @@ returns c =
     let ns = en.bounds in
     let ks = ek.bounds in
     record {
-      answer = head_done whole c.args.input.now c.in_ok-kind.rest.now c.in_ok-q.rest.now c.in_ok-n.rest.now c.in_ok-l.rest.now c.in_ok-k.rest.now c.in_ok-kind.kind c.number.result q n c.in_ok-l.l k c.in_ok-kind.ensures.answer eq.answer en.answer c.in_ok-l.ensures.answer ek.answer few c.number.ensures;
+      answer = head_done whole c.args.input.now c.in_ok-kind.rest.now c.in_ok-q.rest.now c.in_ok-n.rest.now c.in_ok-l.rest.now c.in_ok-k.rest.now c.in_ok-kind.kind c.from.result q n c.in_ok-l.l k c.in_ok-kind.ensures.answer eq.answer en.answer c.in_ok-l.ensures.answer ek.answer few c.from.ensures;
       rest = omega (arith, c.in_ok-kind.ensures.rest, eq.rest, en.rest, c.in_ok-l.ensures.rest, ek.rest);
       lawful = record { alphabet = omega arith; window = omega arith; width = omega arith; letter_count = few-part q (n + k - 1) n (omega arith) (omega arith) few; entry_count = few-part q (n + k - 1) k (omega arith) (omega arith) few };
     }
