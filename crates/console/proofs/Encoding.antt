@@ -1,5 +1,5 @@
 -- What a page is encoded to. Assumes nothing.
-use Rattle.std.proofs.Common.{◌≡◌, ℕ, ◌-◌, List, length, take, drop, Ok, Err, Result, sym, refl, ap, ◌∙◌, arith}
+use Rattle.std.proofs.Common.{◌≡◌, ℕ, List, length, take, drop, Ok, Err, Result, sym, refl, ap, ◌∙◌, arith}
 use Rattle.std.proofs.lemmas.List.{take_at}
 use Rattle.fault.specs.Refusals.{Refusal}
 use Rattle.fault.specs.Answers.{and_then, front, strip_after}
@@ -32,14 +32,13 @@ module _ (d : Content) (out : List ℕ) (room : length out ≡ most_preset) (cou
 
   -- the front of the strip is what was encoded
   pub draft-written : (len : ℕ) (after : List ℕ) → Ok len ≡ written (writing d.header d.letters d.entries out)
-      → after ≡ strip_after (λ bytes. bytes) out (writing d.header d.letters d.entries out) → Ok (take (len - 0) after) ≡ bytes_of d
+      → after ≡ strip_after (λ bytes. bytes) out (writing d.header d.letters d.entries out) → Ok (take len after) ≡ bytes_of d
   draft-written len after e s = go (writing d.header d.letters d.entries out) refl
     where
-      go : (r : Result (List ℕ) Refusal) → writing d.header d.letters d.entries out ≡ r → Ok (take (len - 0) after) ≡ bytes_of d
+      go : (r : Result (List ℕ) Refusal) → writing d.header d.letters d.entries out ≡ r → Ok (take len after) ≡ bytes_of d
       go (Ok bs) i =
           let j : ◌≡◌ {A = Result ℕ Refusal} (Ok len) (Ok (length bs)) = e ∙ ap written i in
           let k : len ≡ length bs = cc in
-          let n : length bs ≡ len - 0 = omega arith in
           let a : after ≡ front bs out = s ∙ ap (strip_after (λ bytes. bytes) out) i in
-          ap (λ (xs : List ℕ). Ok xs) (ap (take (len - 0)) a ∙ take_at bs (drop (length bs) out) (len - 0) n) ∙ sym (bytes_are ∙ ap (from_writer d.lines) i)
+          ap (λ (xs : List ℕ). Ok xs) (ap (take len) a ∙ take_at bs (drop (length bs) out) len (sym k)) ∙ sym (bytes_are ∙ ap (from_writer d.lines) i)
       go (Err g) i = let j : ◌≡◌ {A = Result ℕ Refusal} (Ok len) (Err g) = e ∙ ap written i in let z : ◌≡◌ {A = ℕ} 0 1 = cc in absurd (omega arith)

@@ -1,11 +1,12 @@
 -- What a page says, one step after another. Assumes nothing.
 use Rattle.std.proofs.Common.{◌≡◌, ℕ, ◌+◌, true, false, eqb, List, [], ◌∷◌, ◌++◌, length, IsErrAnd, Some, None, Ok, Err, Option, sym, refl, ap, ◌∙◌, append_assoc, append-nil}
-use Rattle.std.specs.Option.{ok_or}
+use Rattle.std.specs.Borrow.{Bor}
+use Rattle.std.specs.Option.{ok_or, option_map}
 use Rattle.std.specs.Str.{bytes_eq}
 use Rattle.fault.specs.Answers.{and_then}
 use Rattle.console.specs.Names.{part_text}
 use Rattle.console.specs.Places.{next}
-use Rattle.console.specs.Rows.{Row, Reading, valued, named, row, only, word_row, value_row, number_row, each, text_end, ending}
+use Rattle.console.specs.Rows.{Row, Reading, read, row_of, valued, named, row, only, word_row, value_row, number_row, each, text_end, ending}
 use Rattle.console.specs.Words.{Place, front, after, words}
 use Rattle.console.specs.declared.error.Expected.{Expected}
 use Rattle.console.specs.declared.error.Expected.TheVariants.{Name, TextEnd}
@@ -13,6 +14,7 @@ use Rattle.console.specs.declared.error.TextError.{TextError}
 use Rattle.console.specs.declared.error.TextError.TheVariants.{Ended, Wrong}
 use Rattle.console.specs.declared.part.Part.{Part}
 use Rattle.console.specs.declared.part.Part.TheVariants.{Bytes}
+use Rattle.console.specs.declared.row.Row.{Row as RowOf}
 use Rattle.console.specs.declared.words.Class.TheVariants.{NotNewline}
 
 -- the exit of a `?`
@@ -72,11 +74,17 @@ module _ {X : Type 0} (reads : List ℕ → Option X) (part : Part) (expected : 
   value_stops e h = then_err _ h
 
   module _ (r : Row (List ℕ)) (has : Ok r ≡ word_row part expected place) where
-    pub value_wrong : None ≡ reads r.value → Err (Wrong r.line expected) ≡ value_row reads part expected place
+    value_wrong : None ≡ reads r.value → Err (Wrong r.line expected) ≡ value_row reads part expected place
     value_wrong h = then_err _ (ap (λ o. ok_or o (Wrong r.line expected)) h) ∙ then_ok _ has
 
     pub value-is : (x : X) → Some x ≡ reads r.value → Ok (valued r x) ≡ value_row reads part expected place
     value-is x h = then_ok _ (ap (λ o. ok_or o (Wrong r.line expected)) h) ∙ then_ok _ has
+
+  -- a row's word and what it stands for, if it stands for something
+  pub value_with : (r : RowOf (Bor (List ℕ))) (value : Option X) → Ok (row_of (λ s. s.now) r) ≡ word_row part expected place → value ≡ reads r.value.now →
+      read (row_of (λ x. x)) (ok_or (option_map (λ x. record { value = x; line = r.line; after = r.after }) value) (Wrong r.line expected)) ≡ value_row reads part expected place
+  value_with r None has h = value_wrong (row_of (λ s. s.now) r) has h
+  value_with r (Some x) has h = value-is (row_of (λ s. s.now) r) has x h
 
 -- the end of a page
 module _ (place p : Place) (is : p ≡ next place) where

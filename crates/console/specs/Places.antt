@@ -1,5 +1,4 @@
 -- Places of a text. Assumes nothing.
-use Rattle.std.specs.Prelude.{◌+◌, ◌^◌, ◌<◌, length}
 use Rattle.console.specs.Words.{Place, next_word}
 use Rattle.console.specs.declared.place.Place.{Place as PlaceOf}
 
@@ -9,7 +8,3 @@ at p = record { passed = p.passed; text = p.text.now }
 
 abbrev pub next : Place → Place
 next p = next_word p.passed p.text
-
--- the number of a later line is a number of 64 bits
-abbrev pub Fits : PlaceOf → Type 0
-Fits p = p.passed + length p.text.now < 2 ^ 64

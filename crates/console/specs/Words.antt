@@ -4,6 +4,7 @@ use Rattle.std.specs.List.{prefix_len}
 use Rattle.console.specs.declared.words.Class.{Class}
 use Rattle.console.specs.declared.words.Class.TheVariants.{Blank, NotBlank, NotNewline, NotColon}
 use Rattle.console.specs.declared.words.Split.{Split}
+use Rattle.console.specs.declared.words.Words.{Words}
 
 -- the byte that ends a line
 abbrev pub newline : ℕ
@@ -42,6 +43,10 @@ first_and_others (b ∷ bs) =
 -- the words of a line, which blanks keep apart
 unfoldable pub words : List ℕ → List (List ℕ)
 words bs = with_first (first_and_others bs).0 (first_and_others bs).1
+
+-- the words that are left of a line
+abbrev pub words_left : Words → List (List ℕ)
+words_left ws = words ws.line.now
 
 -- the words of a line that was split after its first word, if it has one
 abbrev pub rejoined : Option Split → List (List ℕ)

@@ -1,7 +1,9 @@
 // A page turned into a preset's bytes.
-ghost use Rattle.std.specs.Prelude.{◌≡◌, length, Some, Ok, vec_items};
-ghost use Rattle.console.specs.Encodes.{answered, Answered, miscounted, counts_tested, bytes_of, encoded, most_preset, encode_sentence};
+ghost use Rattle.std.specs.Prelude.{◌≡◌, Some, vec_items};
+ghost use Rattle.console.specs.Encodes.{answered, Answered, miscounted, counts_tested, bytes_of, encoded, encode_sentence};
 ghost use Rattle.console.specs.Grammar.{content};
+ghost use Rattle.console.specs.declared.encode.EncodeError.TheVariants.{Text};
+ghost use Rattle.console.specs.declared.error.TextError.TheVariants.{Memory};
 
 use crate::draft::Draft;
 use crate::error::TextError;
@@ -9,7 +11,8 @@ use crate::lines::{Lines, line_of_refusal};
 use crate::reader::parse;
 use fault::Fault;
 use preset::write_preset;
-use std::alloc::Global;
+use std::alloc::{AllocError, Global};
+use std::error::Error;
 use std::fmt;
 
 // No preset takes more bytes than this.
@@ -54,32 +57,18 @@ fn check_counts(draft: &Draft) -> Result<(), EncodeError>
     Ok(())
 }
 
-fn copied(heap: Global, bytes: &[u8]) -> Result<Vec<u8>, EncodeError>
-    ensures { Answered (answered vec_items result) (Ok bytes.now) }
-{
-    match Vec::from_slice(heap, bytes) {
-        Ok(copy) => Ok(copy),
-        Err(_) => Err(EncodeError::Text(TextError::Memory)),
-    }
-}
-
 // The bytes of what a page holds, written to a strip that every preset fits.
-fn encode_draft(heap: Global, draft: &Draft, out: &mut [u8]) -> Result<Vec<u8>, EncodeError>
-    requires { length out.old ≡ most_preset }
+fn encode_draft(heap: Global, draft: &Draft) -> Result<Vec<u8>, EncodeError>
     ensures { Answered (answered vec_items result) (bytes_of (content draft.now)) }
 {
     check_counts(draft)?;
-    match write_preset(
-        draft.header,
-        draft.letters.as_slice(),
-        draft.entries.as_slice(),
-        out,
-    ) {
+    let mut out = [0; MOST_PRESET];
+    match write_preset(draft.header, &draft.letters, &draft.entries, &mut out) {
+        Ok(len) => Ok(Vec::from_slice(heap, &out[..len])?),
         Err(fault) => Err(EncodeError::Refused {
             lines: draft.lines,
             fault,
         }),
-        Ok(len) => copied(heap, &out[0..len]),
     }
 }
 
@@ -87,12 +76,25 @@ fn encode_draft(heap: Global, draft: &Draft, out: &mut [u8]) -> Result<Vec<u8>, 
 pub fn encode_page(heap: Global, text: &[u8]) -> Result<Vec<u8>, EncodeError>
     ensures { Answered (answered vec_items result) (encoded text.now) }
 {
-    match parse(heap, text) {
-        Err(error) => Err(EncodeError::Text(error)),
-        Ok(draft) => {
-            let mut out = [0; MOST_PRESET];
-            encode_draft(heap, &draft, &mut out)
-        }
+    let draft = parse(heap, text)?;
+    encode_draft(heap, &draft)
+}
+
+impl Error for EncodeError {}
+
+impl From<TextError> for EncodeError {
+    ghost from_gives = { λ error e. e ≡ Text error };
+
+    fn from(error: TextError) -> EncodeError {
+        EncodeError::Text(error)
+    }
+}
+
+impl From<AllocError> for EncodeError {
+    ghost from_gives = { λ _ e. e ≡ Text Memory };
+
+    fn from(_error: AllocError) -> EncodeError {
+        EncodeError::Text(TextError::Memory)
     }
 }
 

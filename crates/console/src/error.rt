@@ -1,8 +1,11 @@
 // Why a text is not a page.
 ghost use Rattle.console.specs.Errors.{expected_text, sentence};
-ghost use Rattle.std.specs.Prelude.{Some};
+ghost use Rattle.std.specs.Prelude.{◌≡◌, Some};
+ghost use Rattle.console.specs.declared.error.TextError.TheVariants.{Memory};
 
 use crate::part::Part;
+use std::alloc::{AllocError, AllocFailed};
+use std::error::Error;
 use std::fmt;
 
 // What should stand in place of what was read.
@@ -56,5 +59,23 @@ impl fmt::Display for TextError {
             }
             TextError::Wrong { line, expected } => write!(f, "Line {line}: expected {expected}."),
         }
+    }
+}
+
+impl Error for TextError {}
+
+impl From<AllocError> for TextError {
+    ghost from_gives = { λ _ e. e ≡ Memory };
+
+    fn from(_error: AllocError) -> TextError {
+        TextError::Memory
+    }
+}
+
+impl<T: Drop> From<AllocFailed<T>> for TextError {
+    ghost from_gives = { λ _ e. e ≡ Memory };
+
+    fn from(_error: AllocFailed<T>) -> TextError {
+        TextError::Memory
     }
 }

@@ -1,6 +1,5 @@
 // A place in a text.
-ghost use Rattle.std.specs.Prelude.{◌≡◌};
-ghost use Rattle.console.specs.Places.{at, next, Fits};
+ghost use Rattle.std.specs.Prelude.{◌≡◌, ◌+◌, ◌^◌, ◌<◌, length};
 
 use crate::words::is_blank;
 
@@ -9,24 +8,28 @@ use crate::words::is_blank;
 pub(crate) struct Place<'a> {
     pub passed: usize,
     pub text: &'a [u8],
+    // the number of a later line is a number of 64 bits
+    ghost fits: { passed + length text.now < 2 ^ 64 },
 }
 
-// The place of the next word, or of the text's end.
-pub(crate) fn next_word(place: Place<'_>) -> Place<'_>
-    requires { Fits place }
-    ensures place { at result ≡ next (at place.entry) }
-    ensures fits { Fits result }
-{
-    let mut passed = place.passed;
-    for (i, byte) in place.text.iter().enumerate() {
-        if *byte == b'\n' {
-            passed += 1;
-        } else if !is_blank(*byte) {
-            return Place {
-                passed,
-                text: &place.text[i..],
-            };
+impl<'a> Place<'a> {
+    ghost use Rattle.console.specs.Places.{at, next};
+
+    // The place of the next word, or of the text's end.
+    pub(crate) fn next_word(self) -> Place<'a>
+        ensures { at result ≡ next (at self.entry) }
+    {
+        let mut passed = self.passed;
+        for (i, byte) in self.text.iter().enumerate() {
+            if *byte == b'\n' {
+                passed += 1;
+            } else if !is_blank(*byte) {
+                return Place {
+                    passed,
+                    text: &self.text[i..],
+                };
+            }
         }
+        Place { passed, text: &[] }
     }
-    Place { passed, text: &[] }
 }

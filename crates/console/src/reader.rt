@@ -3,7 +3,7 @@ ghost use Rattle.std.specs.Prelude.{◌≡◌, vec_items};
 ghost use Rattle.std.specs.Option.{ok_or};
 ghost use Rattle.console.specs.Grammar.{content, parsed};
 ghost use Rattle.console.specs.Rows.{read, Told, each};
-ghost use Rattle.console.specs.Words.{words as words_of};
+ghost use Rattle.console.specs.Words.{words_left};
 ghost use Rattle.console.specs.declared.error.TextError.TheVariants.{Wrong};
 
 use crate::draft::Draft;
@@ -13,7 +13,7 @@ use crate::lines::Lines;
 use crate::part::Part;
 use crate::place::Place;
 use crate::row::{read_end, read_kind_row, read_number_row, read_row};
-use crate::words::first_word;
+use crate::words::Words;
 use charge::ChargeKind;
 use preset::{Entry, Header};
 use std::alloc::Global;
@@ -36,18 +36,13 @@ fn read_items<T: Item>(
     heap: Global,
     kind: ChargeKind,
     line: usize,
-    words: &[u8],
+    words: Words<'_>,
 ) -> Result<Vec<T>, TextError>
-    ensures { Told (read vec_items result) (each (T.Item.form.reads kind) T.Item.form.expected line (words_of words.now)) }
+    ensures { Told (read vec_items result) (each (T.Item.form.reads kind) T.Item.form.expected line (words_left words.entry)) }
 {
     let mut items = Vec::new(heap);
-    let mut rest = words;
-    while let Some(word) = first_word(rest) {
-        let item = read_item::<T>(kind, line, word.front)?;
-        if items.push(item).is_err() {
-            return Err(TextError::Memory);
-        }
-        rest = word.rest;
+    for word in words {
+        items.push(read_item::<T>(kind, line, word)?)?;
     }
     Ok(items)
 }

@@ -1,8 +1,9 @@
 // A text cut into lines and words.
 ghost use Rattle.std.specs.Prelude.{◌≡◌, ◌<◌, length, IfSome};
+ghost use Rattle.std.specs.Iterator.{YieldsFirstRef, item_count};
 ghost use Rattle.std.specs.List.{prefix_len};
 ghost use Rattle.std.specs.Str.{bytes_eq};
-ghost use Rattle.console.specs.Words.{blank, belongs, front as front_of, after as after_of, words as words_of, rejoined};
+ghost use Rattle.console.specs.Words.{blank, belongs, front as front_of, after as after_of, words as words_of, words_left, rejoined};
 
 // Which bytes a front of a text may have.
 #[derive(Clone, Copy)]
@@ -44,12 +45,7 @@ pub(crate) struct Split<'a> {
 fn front_len(class: Class, text: &[u8]) -> usize
     ensures { result ≡ prefix_len (belongs class) text.now }
 {
-    for (i, byte) in text.iter().enumerate() {
-        if !class.has(*byte) {
-            return i;
-        }
-    }
-    text.len()
+    text.iter().take_while(|byte| class.has(**byte)).count()
 }
 
 // Cuts a text after the longest front whose bytes are all of the class.
@@ -69,7 +65,7 @@ pub(crate) fn is_text(word: &[u8], text: &str) -> bool
 }
 
 // Cuts a line after its first word, if it has one.
-pub(crate) fn first_word(line: &[u8]) -> Option<Split<'_>>
+fn first_word(line: &[u8]) -> Option<Split<'_>>
     ensures words { words_of line.now ≡ rejoined result }
     ensures rest { IfSome result (λ s. length s.rest.now < length line.now) }
 {
@@ -78,5 +74,25 @@ pub(crate) fn first_word(line: &[u8]) -> Option<Split<'_>>
         None
     } else {
         Some(word)
+    }
+}
+
+// The words of a line, one after another: the line from the next word on.
+#[derive(Clone, Copy)]
+pub(crate) struct Words<'a> {
+    pub line: &'a [u8],
+}
+
+impl<'a> Iterator for Words<'a> {
+    type Item = &'a [u8];
+
+    ghost next_gives = { YieldsFirstRef words_left };
+
+    ghost remaining = { item_count words_left };
+
+    fn next(&mut self) -> Option<&'a [u8]> {
+        let word = first_word(self.line)?;
+        self.line = word.rest;
+        Some(word.front)
     }
 }

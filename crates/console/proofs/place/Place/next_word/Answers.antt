@@ -2,15 +2,15 @@ use Rattle.std.proofs.Common.{ℕ, ◌+◌, length, drop, sym, ap, ◌∙◌, ar
 use Rattle.std.proofs.lemmas.List.{take_rest}
 use Rattle.console.specs.Words.{next_word}
 use Rattle.console.proofs.Passing.{past-newline, past-blank, at-word, at_end}
-use Rattle.console.proofs.place.next_word.Goals as goal
-use Rattle.console.proofs.place.next_word.Goals.{then-byte-eq10, else-byte-eq10+else-not-is_blank}
+use Rattle.console.proofs.place.Place.next_word.Goals as goal
+use Rattle.console.proofs.place.Place.next_word.Goals.{then-byte-eq10, else-byte-eq10+else-not-is_blank}
 
 pub overflow_add-passed : goal.overflow_add-passed
 overflow_add-passed c = omega (arith, c.loop-i.invariant.1)
 
 pub loop-i-preserved : goal.loop-i-preserved
 loop-i-preserved c =
-    let bs = c.args.place.text.now in
+    let bs = c.args.self.text.now in
     let i = c.loop-i.i in
     let n = c.loop-i.passed in
     let h = c.loop-i-test.true in
@@ -22,16 +22,7 @@ loop-i-preserved c =
 
 pub returns-then-not-is_blank : goal.returns-then-not-is_blank
 returns-then-not-is_blank c =
-    let bs = c.args.place.text.now in
-    let i = c.loop-i.i in
-    record {
-      place = sym (c.loop-i.invariant.0 ∙ at-word c.loop-i.passed bs i c.loop-i-test.true c.if-byte-eq10.false (sym c.if-not-is_blank.ensures));
-      fits = omega (arith, c.loop-i.invariant.1, ap length (take_rest bs i), length-drop i bs, c.requires);
-    }
+    sym (c.loop-i.invariant.0 ∙ at-word c.loop-i.passed c.args.self.text.now c.loop-i.i c.loop-i-test.true c.if-byte-eq10.false (sym c.if-not-is_blank.ensures))
 
 pub returns : goal.returns
-returns c =
-    record {
-      place = sym (c.loop-i.invariant.0 ∙ at_end c.loop-i.passed c.args.place.text.now c.loop-i.i c.loop-i-test.false);
-      fits = omega (arith, c.loop-i.invariant.1, c.loop-i.auto.i-end, c.requires);
-    }
+returns c = sym (c.loop-i.invariant.0 ∙ at_end c.loop-i.passed c.args.self.text.now c.loop-i.i c.loop-i-test.false)
