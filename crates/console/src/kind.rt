@@ -5,6 +5,13 @@ ghost use Rattle.console.specs.Names.{kind_text, named_kind};
 use crate::words::is_text;
 use charge::ChargeKind;
 
+const KINDS: [ChargeKind; 4] = [
+    ChargeKind::Voices,
+    ChargeKind::Pitch,
+    ChargeKind::Channels,
+    ChargeKind::Both,
+];
+
 // The name of a kind.
 pub fn kind_name(kind: ChargeKind) -> &'static str
     ensures { result.now ≡ kind_text kind }
@@ -21,17 +28,7 @@ pub fn kind_name(kind: ChargeKind) -> &'static str
 pub fn kind_named(word: &[u8]) -> Option<ChargeKind>
     ensures { result ≡ named_kind word.now }
 {
-    if is_text(word, kind_name(ChargeKind::Voices)) {
-        return Some(ChargeKind::Voices);
-    }
-    if is_text(word, kind_name(ChargeKind::Pitch)) {
-        return Some(ChargeKind::Pitch);
-    }
-    if is_text(word, kind_name(ChargeKind::Channels)) {
-        return Some(ChargeKind::Channels);
-    }
-    if is_text(word, kind_name(ChargeKind::Both)) {
-        return Some(ChargeKind::Both);
-    }
-    None
+    KINDS
+        .into_iter()
+        .find(|kind| is_text(word, kind_name(*kind)))
 }

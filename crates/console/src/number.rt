@@ -9,14 +9,12 @@ const NUMBER_END: u64 = 1 << 63;
 fn with_digit(value: u64, byte: u8) -> Option<u64>
     ensures { result ≡ with_digit value byte }
 {
-    if byte < b'0' || byte > b'9' {
+    if !byte.is_ascii_digit() {
         return None;
     }
-    let digit = (byte - b'0') as u64;
-    if value > (NUMBER_END - 1 - digit) / 10 {
-        return None;
-    }
-    Some(value * 10 + digit)
+    let digit = u64::from(byte - b'0');
+    let longer = value.checked_mul(10)?.checked_add(digit)?;
+    (longer < NUMBER_END).then_some(longer)
 }
 
 // The number that a word writes, if it writes one.
