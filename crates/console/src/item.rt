@@ -1,6 +1,5 @@
 // Letters and entries as words of a page.
-ghost use Rattle.std.specs.Prelude.{◌≡◌, ◌∷◌, ◌++◌, IfOk, string_bytes, decimal};
-ghost use Rattle.std.specs.Fmt.{signed_decimal as signed_text};
+ghost use Rattle.std.specs.Prelude.{◌≡◌, ◌∷◌, ◌++◌, Some, OnOk, string_bytes};
 ghost use Rattle.charge.specs.declared.kind.ChargeKind.TheVariants.{Both};
 ghost use Rattle.console.specs.Forms.{Form, letter_form, entry_form, entry_text, paired};
 ghost use Rattle.console.specs.Forms.{entry as entry_of};
@@ -10,7 +9,8 @@ use crate::number::{read_number, read_signed};
 use crate::words::{Class, cut};
 use charge::ChargeKind;
 use preset::Entry;
-use std::alloc::{AllocError, Global};
+use std::alloc::AllocError;
+use std::fmt;
 
 // What stands in a row of a page. The member `form` says how it is read and written.
 pub(crate) trait Item: Copy {
@@ -24,9 +24,9 @@ pub(crate) trait Item: Copy {
     fn expected() -> Expected
         ensures { result ≡ form.expected };
 
-    // The item as a word.
-    fn text(self, heap: Global, kind: ChargeKind) -> Result<String, AllocError>
-        ensures { IfOk result (λ s. string_bytes s ≡ form.shows kind self) };
+    // Adds a space and the item as a word.
+    fn push(self, kind: ChargeKind, row: &mut String) -> Result<(), AllocError>
+        ensures { OnOk result (string_bytes row.new ≡ string_bytes row.old ++ (32 ∷ form.shows kind self)) };
 }
 
 impl Item for u8 {
@@ -41,8 +41,8 @@ impl Item for u8 {
         Expected::Letter
     }
 
-    fn text(self, heap: Global, _kind: ChargeKind) -> Result<String, AllocError> {
-        self.to_string(heap)
+    fn push(self, _kind: ChargeKind, row: &mut String) -> Result<(), AllocError> {
+        write!(row, " {self}")
     }
 }
 
@@ -66,20 +66,23 @@ fn read_both(word: &[u8]) -> Option<Entry>
     }
 }
 
-fn both_text(heap: Global, signed: i64, plain: u64) -> Result<String, AllocError>
-    ensures { IfOk result (λ s. string_bytes s ≡ signed_text signed ++ (58 ∷ decimal plain)) }
-{
-    format!(in heap; "{signed}:{plain}")
+// An entry of a kind, which is shown as a word of a page.
+#[derive(Clone, Copy, PartialEq, Eq, Debug)]
+pub struct EntryWord {
+    pub kind: ChargeKind,
+    pub entry: Entry,
 }
 
-// An entry of a kind as a word.
-pub fn entry_text(heap: Global, kind: ChargeKind, entry: Entry) -> Result<String, AllocError>
-    ensures { IfOk result (λ s. string_bytes s ≡ entry_text kind entry) }
-{
-    match kind {
-        ChargeKind::Voices => entry.signed.to_string(heap),
-        ChargeKind::Pitch | ChargeKind::Channels => entry.plain.to_string(heap),
-        ChargeKind::Both => both_text(heap, entry.signed, entry.plain),
+impl fmt::Display for EntryWord {
+    ghost output = { λ w. Some (entry_text w.kind w.entry) };
+
+    fn fmt<W: fmt::Write>(&self, f: &mut fmt::Formatter<W>) -> fmt::Result {
+        let Entry { signed, plain } = self.entry;
+        match self.kind {
+            ChargeKind::Voices => write!(f, "{signed}"),
+            ChargeKind::Pitch | ChargeKind::Channels => write!(f, "{plain}"),
+            ChargeKind::Both => write!(f, "{signed}:{plain}"),
+        }
     }
 }
 
@@ -98,7 +101,8 @@ impl Item for Entry {
         Expected::Entry
     }
 
-    fn text(self, heap: Global, kind: ChargeKind) -> Result<String, AllocError> {
-        entry_text(heap, kind, self)
+    fn push(self, kind: ChargeKind, row: &mut String) -> Result<(), AllocError> {
+        let word = EntryWord { kind, entry: self };
+        write!(row, " {word}")
     }
 }

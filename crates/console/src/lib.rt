@@ -19,7 +19,7 @@ mod writer;
 pub use draft::Draft;
 pub use encode::{EncodeError, encode_page};
 pub use error::{Expected, TextError};
-pub use item::entry_text;
+pub use item::EntryWord;
 pub use kind::{kind_name, kind_named};
 pub use lines::{Lines, line_of_refusal};
 pub use part::Part;

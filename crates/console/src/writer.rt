@@ -1,5 +1,5 @@
 // A preset as a page of text.
-ghost use Rattle.std.specs.Prelude.{◌≡◌, ◌∷◌, ◌++◌, IfOk, string_bytes, OnOk};
+ghost use Rattle.std.specs.Prelude.{◌≡◌, IfOk, string_bytes};
 ghost use Rattle.console.specs.Pages.{spaced, head_text, rows_text, page_text};
 ghost use Rattle.console.specs.ReadBack.{Holdable, ReadsAs};
 
@@ -9,23 +9,13 @@ use charge::ChargeKind;
 use preset::{Entry, Header};
 use std::alloc::{AllocError, Global};
 
-// A space and a word.
-fn push_word(row: &mut String, word: &str) -> Result<(), AllocError>
-    ensures { OnOk result (string_bytes row.new ≡ string_bytes row.old ++ (32 ∷ word.now)) }
-{
-    row.push_str(" ")?;
-    row.push_str(word)?;
-    Ok(())
-}
-
 // The items of a row, a space before each.
 fn row_text<T: Item>(heap: Global, kind: ChargeKind, items: &[T]) -> Result<String, AllocError>
     ensures { IfOk result (λ s. string_bytes s ≡ spaced (T.Item.form.shows kind) items.now) }
 {
     let mut row = String::new(heap);
     for item in items {
-        let word = item.text(heap, kind)?;
-        push_word(&mut row, word.as_str())?;
+        item.push(kind, &mut row)?;
     }
     Ok(row)
 }

@@ -1,13 +1,12 @@
-use Rattle.std.proofs.Common.{ℕ, List, ◌∷◌, ◌++◌, sym, ◌∙◌, ap₂}
+use Rattle.std.proofs.Common.{ℕ, List, ◌∷◌, ◌++◌, sym, ap, ◌∙◌}
 use Rattle.console.proofs.Rows.{spaced_more, spaced_all}
 use Rattle.console.proofs.writer.row_text.Goals as goal
 
 pub loop-item-preserved : goal.loop-item-preserved
 loop-item-preserved g c =
     let shows = g.T.Item.form.shows c.args.kind in
-    let word = c.as_str.ensures.value ∙ c.in_ok-word.ensures in
-    c.in_ok-push_word.ensures
-    ∙ (ap₂ (λ (a b : List ℕ). a ++ (32 ∷ b)) c.loop-item.invariant word
+    c.in_ok-push.ensures
+    ∙ (ap (λ (a : List ℕ). a ++ (32 ∷ shows c.item-item.result)) c.loop-item.invariant
     ∙ sym (spaced_more shows c.args.items.now c.loop-item.item-index c.item-item.result c.loop-item-test.true c.item-item.is))
 
 pub returns : goal.returns
