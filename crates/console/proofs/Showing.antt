@@ -1,5 +1,6 @@
 -- What is known of a preset that was read and is shown. Assumes nothing.
-use Rattle.std.proofs.Common.{◌≡◌, ℕ, ◌-◌, ◌≤◌, Bool, true, false, cond, List, length, take, drop, Some, Ok, Err, Option, Result, sym, refl, ap, ◌∙◌, ap₂, arith, length-append}
+use Rattle.std.proofs.Common.{◌≡◌, ℕ, ◌-◌, ◌≤◌, Bool, true, false, cond, List, length, take, drop, Some, None, Ok, Err, Option, Result, sym, refl, ap, ◌∙◌, ap₂, arith, length-append}
+use Rattle.std.specs.Option.{ok_or}
 use Rattle.std.proofs.lemmas.List.{take_at}
 use Rattle.fault.specs.Limits.{most_window, most_width}
 use Rattle.fault.specs.Refusals.{Refusal}
@@ -69,3 +70,7 @@ read_held bs header ls ls' es es' u sizes e l s =
       letters_are = fl.1;
       entries_are = fs.1;
     }
+
+pub kind-found : {X E : Type 0} (o : Option X) (x : X) (e : E) → ◌≡◌ {A = Result X E} (Ok x) (ok_or o e) → ◌≡◌ {A = Option X} (Some x) o
+kind-found None x e h = let z : ◌≡◌ {A = ℕ} 0 1 = cc in absurd (omega arith)
+kind-found (Some y) x e h = ap (λ (v : _). Some v) cc

@@ -16,7 +16,7 @@ use Rattle.bench.specs.Answers.{found_said}
 use Rattle.bench.specs.Labels.{rule_label_list}
 use Rattle.bench.specs.Verdicts.{broken}
 use Rattle.report.specs.declared.line.Line.{Line}
-use Rattle.report.specs.declared.line.Shape.{Shape}
+use Rattle.report.specs.Texts.{Shape}
 use Rattle.report.specs.Finds.{JudgeFinds, preset_rule, preset_density, preset_found, answer_good}
 use Rattle.report.specs.Lines.{LineIs}
 use Rattle.report.specs.Reports.{ToldCrossings, crossing_shape}

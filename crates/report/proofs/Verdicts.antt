@@ -15,7 +15,7 @@ use Rattle.bench.specs.Verdicts.{Broken, broken}
 use Rattle.report.specs.declared.line.Finding.{Finding}
 use Rattle.report.specs.declared.line.Line.{Line}
 use Rattle.report.specs.declared.line.Question.{Question}
-use Rattle.report.specs.declared.line.Shape.{Shape}
+use Rattle.report.specs.Texts.{Shape}
 use Rattle.report.specs.Finds.{Finds, sent_break, sent_found}
 use Rattle.report.specs.Lines.{LineIs}
 use Rattle.report.specs.Reports.{VerdictLine}

@@ -3,13 +3,23 @@ use Rattle.std.specs.Prelude.{ℕ, suc, ◌≤◌, Bool, true, false, List, [], 
 use Rattle.std.specs.List.{flat_map}
 use Rattle.fault.specs.declared.Fault.{Fault}
 use Rattle.fault.specs.Refusals.{Refusal, refusal}
+use Rattle.charge.specs.declared.kind.ChargeKind.{ChargeKind}
 use Rattle.automaton.specs.Words.{word}
 use Rattle.preset.specs.declared.entry.Entry.{Entry}
 use Rattle.console.specs.Forms.{entry_text}
 use Rattle.report.specs.declared.line.Finding.{Finding}
 use Rattle.report.specs.declared.line.Question.{Question}
 use Rattle.report.specs.declared.line.Question.TheVariants.{Judge, Compare}
-use Rattle.report.specs.declared.line.Shape.{Shape}
+use Rattle.report.specs.declared.line.Shape.{Shape as ShapeOf}
+
+-- The kind of charge, the alphabet size, and how many letters the words have.
+pub record Shape : Type 0 where
+  pub kind : ChargeKind
+  pub q : ℕ
+  pub m : ℕ
+
+abbrev pub shape_of : ShapeOf → Shape
+shape_of s = record { kind = s.kind; q = s.q; m = s.m }
 
 -- the letters of a word or a ring with nothing between them
 abbrev pub digits : List ℕ → List ℕ

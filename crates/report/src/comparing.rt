@@ -3,13 +3,14 @@ ghost use Rattle.std.specs.Prelude.{◌≡◌, ◌≤◌, true, length, IfOk, Ok
 ghost use Rattle.fault.specs.Limits.{most_words};
 ghost use Rattle.preset.specs.Presets.{whole_preset};
 ghost use Rattle.report.specs.Loads.{Sound, preset_of};
+ghost use Rattle.report.specs.Texts.{shape_of};
 ghost use Rattle.report.specs.Reports.{ToldComparison, CompareLine, ComparedAs, CompareTells, compare_shape, same_kind};
 
 use crate::compare::compare_tables;
 use crate::line::{Line, Question, Shape};
 use crate::load::{charges_of, load, zeros_of};
 use crate::loaded::Loaded;
-use crate::texts::{kinds_line, refused_line, two_names, verdict_line};
+use crate::texts::{Asked, kinds_line, refused_line};
 use crate::verdict::{CROSSING_ROOM, RING_ROOM, sent_found};
 use charge::{Both, Channels, ChargeKind, Pitch, Voices};
 use preset::{Entry, Header, STRIP, Sent};
@@ -17,7 +18,8 @@ use std::alloc::{AllocError, Global};
 
 // The kind and the alphabet of two densities, and the words that their label is on.
 fn compare_shape(kind: ChargeKind, first: Header, second: Header) -> Shape
-    ensures { result ≡ compare_shape kind first second }
+    requires { 1 ≤ first.q }
+    ensures { shape_of result ≡ compare_shape kind first second }
 {
     Shape {
         kind,
@@ -42,14 +44,12 @@ fn compare_on<C: Sent>(
 {
     let shape = compare_shape(C::kind(), first, second);
     let found = compare_tables(first, charges, second, others, crossings, ring);
-    verdict_line(
-        heap,
-        Question::Compare,
+    let asked = Asked {
+        question: Question::Compare,
         subject,
         shape,
-        ring,
-        sent_found(found),
-    )
+    };
+    asked.line(heap, ring, sent_found(found))
 }
 
 // The line of two presets of one kind.
@@ -132,7 +132,7 @@ fn compare_first(
 {
     match load(input, letters, entries) {
         Ok(second) => {
-            let subject = two_names(heap, name, other)?;
+            let subject = format!(in heap; "{name}\t{other}")?;
             compare_loaded(heap, subject.as_str(), first, second)
         }
         Err(fault) => refused_line(heap, other, fault),

@@ -5,7 +5,7 @@ ghost use Rattle.preset.specs.Presets.{whole_preset};
 ghost use Rattle.report.specs.Loads.{Sound};
 ghost use Rattle.report.specs.Lines.{LineIs};
 ghost use Rattle.report.specs.Finds.{answer_good};
-ghost use Rattle.report.specs.Texts.{row_text, rows_text};
+ghost use Rattle.report.specs.Texts.{row_text, rows_text, shape_of};
 ghost use Rattle.report.specs.Reports.{ToldCrossings, CrossingsPage, CrossedAs, CrossingsTell, crossing_shape};
 
 use crate::judge::judge_tables;
@@ -23,8 +23,8 @@ use std::alloc::{AllocError, Global};
 
 // The kind and the alphabet of a preset, and the words that crossings are on: one letter fewer than its label's.
 fn crossing_shape(kind: ChargeKind, header: Header) -> Shape
-    requires { (1 ≤ header.n) × ((header.n ≤ 12) × ((1 ≤ header.k) × (header.k ≤ 12))) }
-    ensures { result ≡ crossing_shape kind header }
+    requires { (1 ≤ header.q) × ((1 ≤ header.n) × ((header.n ≤ 12) × ((1 ≤ header.k) × (header.k ≤ 12)))) }
+    ensures { shape_of result ≡ crossing_shape kind header }
 {
     Shape {
         kind,
@@ -64,7 +64,7 @@ fn page_line<C: Sent>(
 ) -> Result<Line, AllocError>
     requires letters { (least_letters ≤ shape.q) × (shape.q ≤ most_letters) }
     requires few { (shape.q ^ shape.m ≤ most_words) × (shape.q ^ shape.m ≤ length strip.now) }
-    ensures { IfOk result (LineIs (rows_text (λ i x. row_text shape i (C.Sent.sending.entry x)) 0 (take (shape.q ^ shape.m) strip.now)) (answer_good found)) }
+    ensures { IfOk result (LineIs (rows_text (λ i x. row_text (shape_of shape) i (C.Sent.sending.entry x)) 0 (take (shape.q ^ shape.m) strip.now)) (answer_good found)) }
 {
     let count = count_words(shape.q, shape.m);
     let text = rows_text(heap, shape, &strip[0..count])?;

@@ -1,5 +1,9 @@
 // A verdict's text, and what it is made of.
+ghost use Rattle.std.specs.Prelude.{◌≡◌, ◌≤◌};
+
+use crate::word::Word;
 use charge::ChargeKind;
+use console::EntryWord;
 use preset::Entry;
 
 // A text, and whether it tells that what was asked is so.
@@ -11,22 +15,48 @@ pub struct Line {
 
 // What was asked: whether a rule keeps its total, or whether two densities have the same totals.
 #[derive(Clone, Copy)]
-pub enum Question {
+pub(crate) enum Question {
     Judge,
     Compare,
 }
 
 // The kind of charge, the alphabet size, and how many letters the words have.
 #[derive(Clone, Copy)]
-pub struct Shape {
+pub(crate) struct Shape {
     pub kind: ChargeKind,
     pub q: u64,
     pub m: u64,
+    ghost some: { 1 ≤ q },
+}
+
+impl Shape {
+    // The word of a code.
+    pub(crate) fn word(self, code: usize) -> Word
+        ensures q { result.q ≡ self.q }
+        ensures m { result.m ≡ self.m }
+        ensures code { result.code ≡ code }
+    {
+        Word {
+            q: self.q,
+            m: self.m,
+            code: code as u64,
+        }
+    }
+
+    // An entry of the kind.
+    pub(crate) fn entry(self, entry: Entry) -> EntryWord
+        ensures { result ≡ record { kind = self.kind; entry = entry } }
+    {
+        EntryWord {
+            kind: self.kind,
+            entry,
+        }
+    }
 }
 
 // A word that fails, by its code, the length of the ring that shows it, and two totals of that ring.
 #[derive(Clone, Copy)]
-pub struct Finding {
+pub(crate) struct Finding {
     pub word: usize,
     pub len: usize,
     pub first: Entry,

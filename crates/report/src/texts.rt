@@ -1,12 +1,11 @@
 // The lines of verdicts, comparisons and refusals.
-ghost use Rattle.std.specs.Prelude.{◌≡◌, ◌≤◌, true, false, length, take, IfOk, string_bytes};
+ghost use Rattle.std.specs.Prelude.{◌≡◌, true, false, IfOk};
 ghost use Rattle.fault.specs.Refusals.{refusal};
-ghost use Rattle.report.specs.Texts.{two_names, kinds_text, good_word, bad_word, refused_text, kept_text, shown_text, finding_text, verdict_text, verdict_good, ring_fits};
+ghost use Rattle.report.specs.Texts.{kinds_text, good_word, bad_word, refused_text, kept_text, finding_text, shape_of, verdict_text, verdict_good, ring_fits};
 ghost use Rattle.report.specs.Lines.{LineIs};
 
 use crate::line::{Finding, Line, Question, Shape};
-use crate::word::{ring_text, word_text};
-use console::entry_text;
+use crate::word::Letters;
 use fault::Fault;
 use std::alloc::{AllocError, Global};
 
@@ -32,135 +31,76 @@ impl Question {
     }
 }
 
-fn refused_text(heap: Global, subject: &str, fault: Fault) -> Result<String, AllocError>
-    ensures { IfOk result (λ s. string_bytes s ≡ refused_text subject.now (refusal fault)) }
-{
-    let code = fault.stop.code();
-    let place = fault.place;
-    format!(in heap; "{subject}\trefused\t{code}\t{place}")
+// A question about a subject, and what the words of its answer are made of.
+#[derive(Clone, Copy)]
+pub(crate) struct Asked<'a> {
+    pub question: Question,
+    pub subject: &'a str,
+    pub shape: Shape,
 }
 
-fn kept_text(heap: Global, question: Question, subject: &str) -> Result<String, AllocError>
-    ensures { IfOk result (λ s. string_bytes s ≡ kept_text question subject.now) }
-{
-    let verdict = question.good_word();
-    format!(in heap; "{subject}\t{verdict}")
-}
+impl Asked<'_> {
+    // The line of a question that is answered by yes.
+    fn kept_line(self, alloc: Global) -> Result<Line, AllocError>
+        ensures { IfOk result (LineIs (kept_text self.entry.question self.entry.subject.now) true) }
+    {
+        let subject = self.subject;
+        let verdict = self.question.good_word();
+        let text = format!(in alloc; "{subject}\t{verdict}")?;
+        Ok(Line { text, good: true })
+    }
 
-// The parts of a line that tells of a failing word, with tabs between them.
-fn shown_text(
-    heap: Global,
-    question: Question,
-    subject: &str,
-    word: &str,
-    ring: &str,
-    first: &str,
-    second: &str,
-) -> Result<String, AllocError>
-    ensures { IfOk result (λ s. string_bytes s ≡ shown_text question subject.now word.now ring.now first.now second.now) }
-{
-    let verdict = question.bad_word();
-    format!(in heap; "{subject}\t{verdict}\t{word}\t{ring}\t{first}\t{second}")
-}
+    // The line of a failing word and the ring that shows it.
+    fn finding_line(
+        self,
+        alloc: Global,
+        ring: &[u8],
+        finding: Finding,
+    ) -> Result<Line, AllocError>
+        ensures { IfOk result (LineIs (finding_text self.entry.question self.entry.subject.now (shape_of self.entry.shape) ring.now finding) false) }
+    {
+        let subject = self.subject;
+        let verdict = self.question.bad_word();
+        let word = self.shape.word(finding.word);
+        let cells = Letters { letters: ring };
+        let first = self.shape.entry(finding.first);
+        let second = self.shape.entry(finding.second);
+        let text = format!(in alloc; "{subject}\t{verdict}\t{word}\t{cells}\t{first}\t{second}")?;
+        Ok(Line { text, good: false })
+    }
 
-fn finding_text(
-    heap: Global,
-    question: Question,
-    subject: &str,
-    shape: Shape,
-    ring: &[u8],
-    finding: Finding,
-) -> Result<String, AllocError>
-    requires { 1 ≤ shape.q }
-    ensures { IfOk result (λ s. string_bytes s ≡ finding_text question subject.now shape ring.now finding) }
-{
-    let word = word_text(heap, shape.q, shape.m, finding.word as u64)?;
-    let cells = ring_text(heap, ring)?;
-    let first = entry_text(heap, shape.kind, finding.first)?;
-    let second = entry_text(heap, shape.kind, finding.second)?;
-    shown_text(
-        heap,
-        question,
-        subject,
-        word.as_str(),
-        cells.as_str(),
-        first.as_str(),
-        second.as_str(),
-    )
+    // The line of what was found on a strip that begins with the ring that shows it.
+    pub(crate) fn line(
+        self,
+        alloc: Global,
+        strip: &[u8],
+        found: Result<Option<Finding>, Fault>,
+    ) -> Result<Line, AllocError>
+        requires { ring_fits found strip.now }
+        ensures { IfOk result (LineIs (verdict_text self.entry.question self.entry.subject.now (shape_of self.entry.shape) strip.now found) (verdict_good found)) }
+    {
+        match found {
+            Err(fault) => refused_line(alloc, self.subject, fault),
+            Ok(None) => self.kept_line(alloc),
+            Ok(Some(finding)) => self.finding_line(alloc, &strip[..finding.len], finding),
+        }
+    }
 }
 
 // The line of a call that was refused.
-pub(crate) fn refused_line(heap: Global, subject: &str, fault: Fault) -> Result<Line, AllocError>
+pub(crate) fn refused_line(alloc: Global, subject: &str, fault: Fault) -> Result<Line, AllocError>
     ensures { IfOk result (LineIs (refused_text subject.now (refusal fault)) false) }
 {
-    let text = refused_text(heap, subject, fault)?;
+    let code = fault.stop.code();
+    let place = fault.place;
+    let text = format!(in alloc; "{subject}\trefused\t{code}\t{place}")?;
     Ok(Line { text, good: false })
-}
-
-// Two names with a tab between them.
-pub(crate) fn two_names(heap: Global, name: &str, other: &str) -> Result<String, AllocError>
-    ensures { IfOk result (λ s. string_bytes s ≡ two_names name.now other.now) }
-{
-    format!(in heap; "{name}\t{other}")
-}
-
-fn kinds_text(heap: Global, subject: &str) -> Result<String, AllocError>
-    ensures { IfOk result (λ s. string_bytes s ≡ kinds_text subject.now) }
-{
-    format!(in heap; "{subject}\tkinds differ")
 }
 
 // The line of two presets whose kinds of charge differ.
-pub(crate) fn kinds_line(heap: Global, subject: &str) -> Result<Line, AllocError>
+pub(crate) fn kinds_line(alloc: Global, subject: &str) -> Result<Line, AllocError>
     ensures { IfOk result (LineIs (kinds_text subject.now) false) }
 {
-    let text = kinds_text(heap, subject)?;
+    let text = format!(in alloc; "{subject}\tkinds differ")?;
     Ok(Line { text, good: false })
-}
-
-// The line of a question that is answered by yes.
-fn kept_line(heap: Global, question: Question, subject: &str) -> Result<Line, AllocError>
-    ensures { IfOk result (LineIs (kept_text question subject.now) true) }
-{
-    let text = kept_text(heap, question, subject)?;
-    Ok(Line { text, good: true })
-}
-
-// The line of a failing word.
-fn finding_line(
-    heap: Global,
-    question: Question,
-    subject: &str,
-    shape: Shape,
-    strip: &[u8],
-    finding: Finding,
-) -> Result<Line, AllocError>
-    requires letters { 1 ≤ shape.q }
-    requires ring { finding.len ≤ length strip.now }
-    ensures { IfOk result (LineIs (finding_text question subject.now shape (take finding.len strip.now) finding) false) }
-{
-    let len = finding.len;
-    let ring = &strip[0..len];
-    let text = finding_text(heap, question, subject, shape, ring, finding)?;
-    Ok(Line { text, good: false })
-}
-
-// The line of what was found on a strip that begins with the ring that shows it.
-pub(crate) fn verdict_line(
-    heap: Global,
-    question: Question,
-    subject: &str,
-    shape: Shape,
-    strip: &[u8],
-    found: Result<Option<Finding>, Fault>,
-) -> Result<Line, AllocError>
-    requires letters { 1 ≤ shape.q }
-    requires ring { ring_fits found strip.now }
-    ensures { IfOk result (LineIs (verdict_text question subject.now shape strip.now found) (verdict_good found)) }
-{
-    match found {
-        Err(fault) => refused_line(heap, subject, fault),
-        Ok(None) => kept_line(heap, question, subject),
-        Ok(Some(finding)) => finding_line(heap, question, subject, shape, strip, finding),
-    }
 }

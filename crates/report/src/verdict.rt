@@ -2,13 +2,14 @@
 ghost use Rattle.std.specs.Prelude.{◌≡◌, ◌≤◌, length, IfOk};
 ghost use Rattle.report.specs.Loads.{Sound};
 ghost use Rattle.report.specs.Finds.{sent_break, sent_found};
+ghost use Rattle.report.specs.Texts.{shape_of};
 ghost use Rattle.report.specs.Reports.{ToldJudgement, JudgeLine, JudgedAs, judge_shape};
 
 use crate::judge::judge_tables;
 use crate::line::{Finding, Line, Question, Shape};
 use crate::load::{charges_of, zeros_of};
 use crate::loaded::Loaded;
-use crate::texts::verdict_line;
+use crate::texts::Asked;
 use bench::Break;
 use charge::{Both, Channels, ChargeKind, Pitch, Voices};
 use fault::Fault;
@@ -47,8 +48,8 @@ pub(crate) fn sent_found<C: Sent>(
 
 // The kind and the alphabet of a preset, and the words that its label is on.
 pub(crate) fn judge_shape(kind: ChargeKind, header: Header) -> Shape
-    requires { (header.n ≤ 12) × ((1 ≤ header.k) × (header.k ≤ 12)) }
-    ensures { result ≡ judge_shape kind header }
+    requires { (1 ≤ header.q) × ((header.n ≤ 12) × ((1 ≤ header.k) × (header.k ≤ 12))) }
+    ensures { shape_of result ≡ judge_shape kind header }
 {
     Shape {
         kind,
@@ -71,7 +72,12 @@ fn judge_on<C: Sent>(
 {
     let shape = judge_shape(C::kind(), preset.header);
     let found = judge_tables(preset, charges, crossings, ring);
-    verdict_line(heap, Question::Judge, name, shape, ring, sent_found(found))
+    let asked = Asked {
+        question: Question::Judge,
+        subject: name,
+        shape,
+    };
+    asked.line(heap, ring, sent_found(found))
 }
 
 // The line of a preset of one kind.

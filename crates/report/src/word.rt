@@ -1,49 +1,50 @@
-// Words and rings as digits.
-ghost use Rattle.std.specs.Prelude.{◌≡◌, ◌≤◌, ◌++◌, IfOk, string_bytes, decimal, OnOk};
+// Words and rings, shown as digits.
+ghost use Rattle.std.specs.Prelude.{◌≤◌, Some};
 ghost use Rattle.automaton.specs.Words.{word};
 ghost use Rattle.report.specs.Texts.{digits};
 
-use std::alloc::{AllocError, Global};
+use std::fmt;
 
-// Adds a letter to a text.
-fn push_letter(heap: Global, text: &mut String, letter: u64) -> Result<(), AllocError>
-    ensures { OnOk result (string_bytes text.new ≡ string_bytes text.old ++ decimal letter) }
-{
-    let digit = letter.to_string(heap)?;
-    text.push_str(digit.as_str())?;
-    Ok(())
+// Letters, shown one after another.
+#[derive(Clone, Copy)]
+pub(crate) struct Letters<'a> {
+    pub letters: &'a [u8],
 }
 
-// The letters of a ring.
-pub(crate) fn ring_text(heap: Global, ring: &[u8]) -> Result<String, AllocError>
-    ensures { IfOk result (λ s. string_bytes s ≡ digits ring.now) }
-{
-    let mut text = String::new(heap);
-    for letter in ring {
-        push_letter(heap, &mut text, *letter as u64)?;
+impl fmt::Display for Letters<'_> {
+    ghost output = { λ w. Some (digits w.letters.now) };
+
+    fn fmt<W: fmt::Write>(&self, f: &mut fmt::Formatter<W>) -> fmt::Result {
+        for letter in self.letters {
+            write!(f, "{letter}")?;
+        }
+        Ok(())
     }
-    Ok(text)
 }
 
-// Adds the word of m letters with a code.
-fn push_word(heap: Global, text: &mut String, q: u64, m: u64, code: u64) -> Result<(), AllocError>
-    requires { 1 ≤ q }
-    ensures { OnOk result (string_bytes text.new ≡ string_bytes text.old ++ digits (word q m code)) }
-{
-    if m == 0 {
-        return Ok(());
+// The word of m letters with a code, shown likewise.
+#[derive(Clone, Copy)]
+pub(crate) struct Word {
+    pub q: u64,
+    pub m: u64,
+    pub code: u64,
+    ghost some: { 1 ≤ q },
+}
+
+impl fmt::Display for Word {
+    ghost output = { λ w. Some (digits (word w.q w.m w.code)) };
+
+    fn fmt<W: fmt::Write>(&self, f: &mut fmt::Formatter<W>) -> fmt::Result {
+        if self.m == 0 {
+            return Ok(());
+        }
+        let front = Word {
+            q: self.q,
+            m: self.m - 1,
+            code: self.code / self.q,
+        };
+        let last = self.code % self.q;
+        front.fmt(f)?;
+        write!(f, "{last}")
     }
-    push_word(heap, text, q, m - 1, code / q)?;
-    push_letter(heap, text, code % q)?;
-    Ok(())
-}
-
-// The word of m letters with a code.
-pub(crate) fn word_text(heap: Global, q: u64, m: u64, code: u64) -> Result<String, AllocError>
-    requires { 1 ≤ q }
-    ensures { IfOk result (λ s. string_bytes s ≡ digits (word q m code)) }
-{
-    let mut text = String::new(heap);
-    push_word(heap, &mut text, q, m, code)?;
-    Ok(text)
 }
