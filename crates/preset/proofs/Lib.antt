@@ -8,4 +8,3 @@ pub mod Scanning
 pub mod Spelling
 pub mod Strips
 pub mod Turns
-pub mod Writing
