@@ -1,5 +1,5 @@
 -- A header whose sizes are in their ranges. Assumes nothing.
-use Rattle.std.proofs.Common.{◌≡◌, ℕ, ◌+◌, ◌-◌, ◌^◌, ◌<◌, ◌≤◌, Bool, true, false, cond, List, Some, None, is_some, Ok, sym, refl, arith, lt-ltb, le-leb}
+use Rattle.std.proofs.Common.{◌≡◌, ℕ, ◌+◌, ◌-◌, ◌^◌, ◌≤◌, Bool, true, false, cond, List, Some, None, is_some, Ok, sym, refl, arith, lt-ltb, le-leb}
 use native.Mathlib.Nat.{pow-le-pow_right}
 use Rattle.fault.specs.declared.Stop.TheVariants.{BadAlphabet, BadWindow, BadReach, BadWidth}
 use Rattle.fault.specs.Limits.{most_words, within, few_words, words}

@@ -3,12 +3,12 @@ use Rattle.std.proofs.Common.{◌≡◌, ℕ, ◌-◌, ◌<◌, ◌≤◌, List,
 use Rattle.fault.specs.declared.Stop.TheVariants.{SurplusBytes}
 use Rattle.fault.specs.Limits.{most_words}
 use Rattle.fault.specs.Refusals.{Refusal, refused_at}
-use Rattle.fault.specs.Answers.{strip_after}
+use Rattle.fault.specs.Answers.{and_then, strip_after}
 use Rattle.preset.specs.declared.entry.Entry.{Entry}
 use Rattle.preset.specs.declared.reader.Scan.{Scan}
 use Rattle.preset.specs.Answers.{Answer, passed}
 use Rattle.preset.specs.Heads.{head_of}
-use Rattle.preset.specs.Presets.{Head, Preset, preset, head_read, letters_read, entries_read, ended, whole_preset, with_room, whole_reading, header_of}
+use Rattle.preset.specs.Presets.{Head, Preset, preset, head_read, letters_read, entries_read, ended, whole_preset, with_room, whole_reading}
 use Rattle.preset.specs.Scans.{Scanned}
 use Rattle.preset.proofs.Outcomes.{pair_1}
 
@@ -51,7 +51,7 @@ module _ (bs : List ℕ) (s : Scan) (is : Scanned bs s) where
     whole-found h = let f = found in roomy (whole_preset bs) ∙ rw f.1 (ended_none (length bs) f.0 s.rest.bytes.now h)
 
     pub whole-done : length s.rest.bytes.now ≡ 0
-        → (header_of (whole_reading letters entries bs) ≡ Ok s.head.header)
+        → (and_then (whole_reading letters entries bs) (λ p. Ok p.head) ≡ Ok (head_of s.head))
         × (strip_after (λ p. p.letters) letters (whole_reading letters entries bs) ≡ strip_after (λ p. p.0.letters) letters (preset bs))
         × (strip_after (λ p. p.entries) entries (whole_reading letters entries bs) ≡ strip_after (λ p. p.0.entries) entries (preset bs))
-    whole-done h = let w = whole-found h in let e = found.1 in (ap header_of w ∙ ap (λ (h : Head). Ok h.header) found.2, rw (w, e), rw (w, e))
+    whole-done h = let w = whole-found h in let e = found.1 in (rw w (ap (λ (h : Head). Ok h) found.2), rw (w, e), rw (w, e))

@@ -5,7 +5,7 @@ use Rattle.fault.specs.Refusals.{Refusal}
 use Rattle.fault.specs.Answers.{and_then, over, strip_after}
 use Rattle.preset.specs.Answers.{Answer, many, passed}
 use Rattle.preset.specs.Items.{sent}
-use Rattle.preset.proofs.Strips.{over-over}
+use Rattle.preset.proofs.Fronts.{over-over}
 
 -- items before others that are read
 abbrev pub ahead : {X : Type 0} → List X → Answer (List X) → Answer (List X)

@@ -1,5 +1,5 @@
 -- Presets: what one holds, and how it is read. Assumes nothing.
-use Rattle.std.specs.Prelude.{ℕ, suc, ◌+◌, ◌-◌, ◌^◌, cond, ◌&&◌, List, [], ◌∷◌, length, Some, None, Ok, Err, Option, Result, nat_le}
+use Rattle.std.specs.Prelude.{ℕ, suc, ◌+◌, ◌-◌, ◌^◌, cond, ◌&&◌, List, [], ◌∷◌, length, None, Ok, Err, Option, Result, nat_le}
 use Rattle.std.specs.Option.{ok_or, option_map}
 use Rattle.fault.specs.declared.Stop.TheVariants.{UnknownKind, BadAlphabet, BadWindow, BadReach, BadWidth, TooManyWords, SurplusBytes, ShortStrip}
 use Rattle.fault.specs.Limits.{least_letters, most_letters, most_window, most_width, most_words, few_words, words, within}

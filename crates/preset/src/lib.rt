@@ -14,6 +14,7 @@ mod number;
 mod reader;
 mod sent;
 mod shape;
+mod strips;
 mod writer;
 
 pub use entry::Entry;
@@ -22,4 +23,5 @@ pub use loaded::Loaded;
 pub use number::{MOST_NUMBER, read_number, write_number};
 pub use reader::{STRIP, read_preset, read_whole};
 pub use sent::Sent;
+pub use strips::Strips;
 pub use writer::write_preset;

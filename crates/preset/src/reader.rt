@@ -1,9 +1,10 @@
 // Presets read from bytes into lent strips.
-ghost use Rattle.std.specs.Prelude.{◌≡◌, ◌-◌, ◌≤◌, length, Err, MatchResult};
+ghost use Rattle.std.specs.Prelude.{◌≡◌, ◌-◌, ◌≤◌, length, Ok, Err, MatchResult};
 ghost use Rattle.fault.specs.Limits.{most_words};
 ghost use Rattle.fault.specs.Refusals.{refusal, refused_at};
 ghost use Rattle.fault.specs.declared.Stop.TheVariants.{SurplusBytes};
-ghost use Rattle.fault.specs.Answers.{plainly, strip_after};
+ghost use Rattle.fault.specs.Answers.{plainly, and_then, strip_after};
+ghost use Rattle.preset.specs.Heads.{heads};
 ghost use Rattle.preset.specs.Answers.{seen};
 ghost use Rattle.preset.specs.Laws.{PresetWritesBack, OneSpelling, PresetSizes};
 ghost use Rattle.preset.specs.Presets.{preset as preset-at, with_room, reading, whole_reading, header_of, header_and_rest};
@@ -96,7 +97,26 @@ fn surplus(rest: &Unread<'_>) -> Fault
     Stop::SurplusBytes.at(rest.place())
 }
 
-// The same where the input is one preset and no more.
+// The same where the input is one preset and no more. The answer is the preset's head.
+pub(crate) fn read_parts(
+    input: &[u8],
+    letters: &mut [u8],
+    entries: &mut [Entry],
+) -> Result<Head, Fault>
+    ensures answer { plainly (heads result) ≡ and_then (whole_reading letters.old entries.old input.now) (λ p. Ok p.head) }
+    ensures letters { letters.new ≡ strip_after (λ p. p.letters) letters.old (whole_reading letters.old entries.old input.now) }
+    ensures entries { entries.new ≡ strip_after (λ p. p.entries) entries.old (whole_reading letters.old entries.old input.now) }
+{
+    let scan = find_parts_for(input, letters.len(), entries.len())?;
+    if !scan.rest.bytes.is_empty() {
+        return Err(surplus(&scan.rest));
+    }
+    let head = scan.head;
+    fill_strips(input, scan, letters, entries);
+    Ok(head)
+}
+
+// The preset that the whole input is goes to the front of the strips.
 pub fn read_whole(input: &[u8], letters: &mut [u8], entries: &mut [Entry]) -> Result<Header, Fault>
     ensures answer { plainly result ≡ header_of (whole_reading letters.old entries.old input.now) }
     ensures letters { letters.new ≡ strip_after (λ p. p.letters) letters.old (whole_reading letters.old entries.old input.now) }
@@ -104,11 +124,6 @@ pub fn read_whole(input: &[u8], letters: &mut [u8], entries: &mut [Entry]) -> Re
     ensures one_spelling { OneSpelling }
     ensures sizes { PresetSizes }
 {
-    let scan = find_parts_for(input, letters.len(), entries.len())?;
-    if !scan.rest.bytes.is_empty() {
-        return Err(surplus(&scan.rest));
-    }
-    let header = scan.head.header;
-    fill_strips(input, scan, letters, entries);
-    Ok(header)
+    let head = read_parts(input, letters, entries)?;
+    Ok(head.header)
 }

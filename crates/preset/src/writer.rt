@@ -77,12 +77,7 @@ fn load<'a>(header: Header, letters: &'a [u8], entries: &'a [Entry]) -> Result<L
     ensures { loaded result ≡ checked header letters.now entries.now }
 {
     let head = check_preset(header, letters, entries)?;
-    Ok(Loaded {
-        kind: head.kind,
-        header,
-        letters: &letters[..head.letter_count()],
-        entries: &entries[..head.entry_count()],
-    })
+    Ok(Loaded::front(head, letters, entries))
 }
 
 // How many bytes a preset takes.

@@ -1,4 +1,4 @@
-use Rattle.std.proofs.Common.{true, is_ok, sym, ◌∙◌, arith}
+use Rattle.std.proofs.Common.{◌∙◌, arith}
 use Rattle.preset.specs.Answers.{many}
 use Rattle.preset.proofs.Turns.{ok-first, ok_more, ahead_more, ahead_all, past_more}
 use Rattle.preset.proofs.items.fill.Goals as goal

@@ -5,7 +5,7 @@ use Rattle.preset.specs.Items.{sent}
 use Rattle.preset.specs.Numbers.{spell}
 use Rattle.preset.specs.Writes.{header_numbers}
 use Rattle.preset.proofs.Heads.{letters_few, entries_few}
-use Rattle.preset.proofs.Strips.{length_three}
+use Rattle.preset.proofs.Fronts.{length_three}
 use Rattle.preset.proofs.writer.preset_len.Goals as goal
 
 pub total_len-requires-2 : goal.total_len-requires-2

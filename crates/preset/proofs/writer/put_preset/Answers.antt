@@ -8,7 +8,7 @@ use Rattle.preset.specs.declared.loaded.Loaded.{Loaded}
 use Rattle.preset.specs.Loads.{preset_of}
 use Rattle.preset.specs.Numbers.{spell}
 use Rattle.preset.specs.Writes.{header_numbers, preset_bytes}
-use Rattle.preset.proofs.Strips.{length_three, over_three}
+use Rattle.preset.proofs.Fronts.{length_three, over_three}
 use Rattle.preset.proofs.writer.put_preset.Goals as goal
 
 -- the length of a preset, by its parts
