@@ -1,5 +1,5 @@
 -- What an answer that passed or was refused says of its steps. Assumes nothing.
-use Rattle.std.proofs.Common.{◌≡◌, ℕ, Bool, true, false, cond, Ok, Err, Result, refl, ap, arith}
+use Rattle.std.proofs.Common.{◌≡◌, ℕ, Bool, true, false, cond, Ok, Err, Result, sym, refl, ap, arith}
 use Rattle.fault.specs.Refusals.{Refusal}
 use Rattle.fault.specs.Answers.{and_then}
 
@@ -17,6 +17,11 @@ and_ok (Err r) f y e = never e
 pub cond_ok : {X : Type 0} (b : Bool) (x : X) (f : Refusal) (y : X) → cond b (Ok x) (Err f) ≡ Ok y → (b ≡ true) × (x ≡ y)
 cond_ok true x f y e = (refl, cc)
 cond_ok false x f y e = never e
+
+-- a test that did not refuse
+pub holds : (b : Bool) (f : Refusal) {u : Unit {0}} → ◌≡◌ {A = Result (Unit {0}) Refusal} (Ok u) (cond b (Ok tt) (Err f)) → b ≡ true
+holds true f e = refl
+holds false f e = never (sym e)
 
 pub pair_0 : {A B F : Type 0} {a c : A} {b d : B} → ◌≡◌ {A = Result (A × B) F} (Ok (a, b)) (Ok (c, d)) → a ≡ c
 pair_0 {A} {B} {F} {a} {c} {b} {d} e = let p : ◌≡◌ {A = A × B} (a, b) (c, d) = cc in ap (λ (x : A × B). x.0) p

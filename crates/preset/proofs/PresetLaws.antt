@@ -15,17 +15,18 @@ use Rattle.charge.specs.Numbers.{number_of, kind_of}
 use Rattle.fault.specs.Answers.{and_then}
 use Rattle.fault.specs.Checks.{each_fits, tested}
 use Rattle.preset.specs.declared.entry.Entry.{Entry}
-use Rattle.preset.specs.declared.header.Head.{Head}
 use Rattle.preset.specs.declared.header.Header.{Header}
 use Rattle.preset.specs.Entries.{letter, fits, entry, entry_bytes}
 use Rattle.preset.specs.Fields.{field}
 use Rattle.preset.specs.Items.{sent}
 use Rattle.preset.specs.Laws.{Bytes, PresetReadsBack, PresetWritesBack, OneSpelling, PresetSizes}
 use Rattle.preset.specs.Numbers.{number, number_limit, spell}
-use Rattle.preset.specs.Presets.{Preset, counted, kind_read, head_read, letters_read, entries_read, preset, ended, whole_preset}
+use Rattle.preset.specs.Presets.{Head, Preset, counted, kind_read, head_read, letters_read, entries_read, preset, ended, whole_preset}
+use Rattle.preset.specs.Sizes.{Sized}
+use Rattle.preset.specs.Sound.{Sound}
 use Rattle.preset.specs.Writes.{size_tests, head_checked, fronts, strips_checked, contents_checked, checked, header_numbers, preset_bytes}
 use Rattle.preset.proofs.Faithful.{bytes_after, field_faithful, entry_faithful, many-back, many_sent}
-use Rattle.preset.proofs.Heads.{few-part, head_done, sizes_pass}
+use Rattle.preset.proofs.Heads.{letters_few, entries_few, head_done, sizes_pass}
 use Rattle.preset.proofs.NumberLaws.{number_reads_back, number_spells_back}
 use Rattle.preset.proofs.Outcomes.{never, ok-is, and_ok, cond_ok, pair_0, pair_1}
 use Rattle.preset.proofs.Scanning.{preset-is}
@@ -49,20 +50,6 @@ number_small Pitch = omega arith
 number_small Channels = omega arith
 number_small Both = omega arith
 
--- sizes that pass every test
-pub record Sized (h : Header) : Type 0 where
-  pub q₁ : 2 ≤ h.q
-  pub q₂ : h.q < 9
-  pub n₁ : 1 ≤ h.n
-  pub n₂ : h.n < 13
-  pub l₁ : h.l < h.n
-  pub k₁ : 1 ≤ h.k
-  pub k₂ : h.k < 13
-  pub few : few_words h.q (h.n + h.k - 1) ≡ true
-
-sized_pass : (h : Header) → Sized h → tested (size_tests h) ≡ Ok tt
-sized_pass h s = sizes_pass h s.q₁ s.q₂ s.n₁ s.n₂ s.l₁ s.k₁ s.k₂ s.few
-
 -- where a test passes, what comes after it decides
 then_rest : (b : Bool) (r : Result (Unit {0}) Refusal) (f : Refusal) → cond b r (Err f) ≡ Ok tt → (b ≡ true) × (r ≡ Ok tt)
 then_rest true r f e = (refl, e)
@@ -72,21 +59,22 @@ passed : (ts : List (Bool × Stop)) → tested ts ≡ Ok tt → AllByRecursion (
 passed [] e = tt
 passed (t ∷ ts) e = let s = then_rest t.0 (tested ts) (refused_at t.1 0) e in (s.0, passed ts s.1)
 
-sized_from : (h : Header) → tested (size_tests h) ≡ Ok tt → Sized h
+-- sizes that pass every test are in their ranges
+pub sized_from : (h : Header) → tested (size_tests h) ≡ Ok tt → Sized h
 sized_from h e =
     let all = passed (size_tests h) e in
     let q = and_parts (leb 2 h.q) (ltb h.q 9) all.0 in
     let n = and_parts (leb 1 h.n) (ltb h.n 13) all.1.0 in
     let k = and_parts (leb 1 h.k) (ltb h.k 13) all.1.1.1.0 in
     record {
-      q₁ = leb-true 2 h.q q.0;
-      q₂ = ltb-true h.q 9 q.1;
-      n₁ = leb-true 1 h.n n.0;
-      n₂ = ltb-true h.n 13 n.1;
-      l₁ = ltb-true h.l h.n all.1.1.0;
-      k₁ = leb-true 1 h.k k.0;
-      k₂ = ltb-true h.k 13 k.1;
-      few = all.1.1.1.1.0;
+      letters_some = leb-true 2 h.q q.0;
+      letters_most = omega (arith, ltb-true h.q 9 q.1);
+      window_some = leb-true 1 h.n n.0;
+      window = omega (arith, ltb-true h.n 13 n.1);
+      reach = ltb-true h.l h.n all.1.1.0;
+      width_some = leb-true 1 h.k k.0;
+      width = omega (arith, ltb-true h.k 13 k.1);
+      few = leb-true (h.q ^ (h.n + h.k - 1)) most_words all.1.1.1.1.0;
     }
 
 -- each item is allowed
@@ -100,15 +88,6 @@ fits_to : {X : Type 0} (ok : X → Bool) (stop : Stop) (i : ℕ) (xs : List X) �
 fits_to ok stop i [] u = refl
 fits_to ok stop i (x ∷ xs) u = rw u.0 (fits_to ok stop (i + 1) xs u.1)
 
--- What holds of each preset that is read or written.
-pub record Good (p : Preset) : Type 0 where
-  pub named : number_of p.head.kind ≡ p.head.header.kind
-  pub sized : Sized p.head.header
-  pub letter_count : length p.letters ≡ p.head.header.q ^ p.head.header.n
-  pub entry_count : length p.entries ≡ p.head.header.q ^ p.head.header.k
-  pub letters_fit : AllByRecursion (λ x. ltb x p.head.header.q ≡ true) p.letters
-  pub entries_fit : AllByRecursion (λ e. fits p.head.kind e ≡ true) p.entries
-
 -- a header that passed, with the kind that it names
 head_from : (h : Header) (head : Head) → head_checked h ≡ Ok head → (head.header ≡ h) × (kind_of h.kind ≡ Some head.kind) × Sized h
 head_from h head e =
@@ -121,8 +100,8 @@ head_from h head e =
     ok_or-some None f x e = never e
     ok_or-some (Some y) f x e = let i : y ≡ x = cc in ap (λ z. Some z) i
 
-good_from : (h : Header) (letters : List ℕ) (entries : List Entry) (p : Preset) → checked h letters entries ≡ Ok p → Good p
-good_from h letters entries p e =
+pub sound_from : (h : Header) (letters : List ℕ) (entries : List Entry) (p : Preset) → checked h letters entries ≡ Ok p → Sound p
+sound_from h letters entries p e =
     let a = and_ok (head_checked h) _ p e in
     let head = a.0 in
     let b = and_ok (strips_checked head letters entries) _ p a.2 in
@@ -132,7 +111,7 @@ good_from h letters entries p e =
     let room = and_parts (leb (head.header.q ^ head.header.n) (length letters)) (leb (head.header.q ^ head.header.k) (length entries)) s.0 in
     let is : fronts head letters entries ≡ p = s.1 ∙ ok-is c.2 in
     let d = and_ok (each_fits (λ x. ltb x b.0.head.header.q) BadLetter 0 b.0.letters) (λ _. each_fits (fits b.0.head.kind) BadEntry 0 b.0.entries) tt c.1 in
-    let g : Good (fronts head letters entries) = record {
+    let g : Sound (fronts head letters entries) = record {
       named = kind-number h.kind head.kind f.1 ∙ ap (λ (x : Header). x.kind) (sym f.0);
       sized = rw f.0 f.2;
       letter_count = length-take-le (head.header.q ^ head.header.n) letters (leb-true _ _ room.0);
@@ -142,7 +121,7 @@ good_from h letters entries p e =
     } in
     rw (sym is) g
 
-checked_from : (p : Preset) → Good p → checked p.head.header p.letters p.entries ≡ Ok p
+checked_from : (p : Preset) → Sound p → checked p.head.header p.letters p.entries ≡ Ok p
 checked_from p g =
     let h = p.head.header in
     let kind : kind_of h.kind ≡ Some p.head.kind = ap kind_of (sym g.named) ∙ number-kind p.head.kind in
@@ -150,7 +129,7 @@ checked_from p g =
     let es = take_all (h.q ^ h.k) p.entries (omega (arith, g.entry_count)) in
     let lroom = le-leb (h.q ^ h.n) (length p.letters) (omega (arith, g.letter_count)) in
     let eroom = le-leb (h.q ^ h.k) (length p.entries) (omega (arith, g.entry_count)) in
-    let head : head_checked h ≡ Ok p.head = rw (kind, sized_pass h g.sized) in
+    let head : head_checked h ≡ Ok p.head = rw (kind, sizes_pass h g.sized) in
     let strips : strips_checked p.head p.letters p.entries ≡ Ok p = rw (lroom, eroom, ls, es) in
     let contents : contents_checked p ≡ Ok tt = rw (fits_to (λ x. ltb x h.q) BadLetter 0 p.letters g.letters_fit) (fits_to (fits p.head.kind) BadEntry 0 p.entries g.entries_fit) in
     rw (head, strips, contents)
@@ -172,11 +151,11 @@ header-reads whole head tail named s =
     let small : h.kind ≤ number_limit = omega (arith, number_small head.kind) in
     let kind : kind_of h.kind ≡ Some head.kind = ap kind_of (sym named) ∙ number-kind head.kind in
     let e₁ : kind_read whole bs ≡ Ok (head.kind, r₁) = rw (number_reads_back (whole - length bs) h.kind r₁ small, kind) in
-    let e₂ = (field_faithful whole 2 9 BadAlphabet).back h.q r₂ (s.q₁, s.q₂, omega (arith, s.q₂)) in
-    let e₃ = (field_faithful whole 1 13 BadWindow).back h.n r₃ (s.n₁, s.n₂, omega (arith, s.n₂)) in
-    let e₄ = (field_faithful whole 0 h.n BadReach).back h.l r₄ (omega arith, s.l₁, omega (arith, s.l₁, s.n₂)) in
-    let e₅ = (field_faithful whole 1 13 BadWidth).back h.k r₅ (s.k₁, s.k₂, omega (arith, s.k₂)) in
-    let done = head_done whole bs r₁ r₂ r₃ r₄ r₅ head.kind h.kind h.q h.n h.l h.k (sym e₁) (sym e₂) (sym e₃) (sym e₄) (sym e₅) s.few (sym named) in
+    let e₂ = (field_faithful whole 2 9 BadAlphabet).back h.q r₂ (omega arith, omega arith, omega arith) in
+    let e₃ = (field_faithful whole 1 13 BadWindow).back h.n r₃ (omega arith, omega arith, omega arith) in
+    let e₄ = (field_faithful whole 0 h.n BadReach).back h.l r₄ (omega arith, s.reach, omega arith) in
+    let e₅ = (field_faithful whole 1 13 BadWidth).back h.k r₅ (omega arith, omega arith, omega arith) in
+    let done = head_done whole bs r₁ r₂ r₃ r₄ r₅ head.kind h.kind h.q h.n h.l h.k (sym e₁) (sym e₂) (sym e₃) (sym e₄) (sym e₅) (le-leb (h.q ^ (h.n + h.k - 1)) most_words s.few) (sym named) in
     ap (head_read whole) (five (spell h.kind) (spell h.q) (spell h.n) (spell h.l) (spell h.k) tail) ∙ sym done
 
 -- a letter is a small number
@@ -188,8 +167,8 @@ within-letter : (q : ℕ) (xs : List ℕ) → AllByRecursion (λ x. (0 ≤ x) ×
 within-letter q [] u = tt
 within-letter q (x ∷ xs) u = (lt-ltb x q u.0.1, within-letter q xs u.1)
 
-good-reads : (p : Preset) (rest : List ℕ) → Good p → preset (preset_bytes p ++ rest) ≡ Ok (p, rest)
-good-reads p rest g =
+sound-reads : (p : Preset) (rest : List ℕ) → Sound p → preset (preset_bytes p ++ rest) ≡ Ok (p, rest)
+sound-reads p rest g =
     let h = p.head.header in
     let bs = preset_bytes p ++ rest in
     let whole = length bs in
@@ -198,14 +177,14 @@ good-reads p rest g =
     let entries = sent (entry_bytes p.head.kind) p.entries in
     let joins : bs ≡ numbers ++ (letters ++ (entries ++ rest)) = append_assoc numbers (letters ++ entries) rest ∙ ap (λ (xs : List ℕ). numbers ++ xs) (append_assoc letters entries rest) in
     let ls : letters_read whole p.head (letters ++ (entries ++ rest)) ≡ Ok (p.letters, entries ++ rest) =
-    rw (sym g.letter_count) (many-back (letter h.q whole) spell _ (field_faithful whole 0 h.q BadLetter) p.letters (entries ++ rest) (letter-within whole h.q g.sized.q₂ p.letters g.letters_fit)) in
+    rw (sym g.letter_count) (many-back (letter h.q whole) spell _ (field_faithful whole 0 h.q BadLetter) p.letters (entries ++ rest) (letter-within whole h.q (omega arith) p.letters g.letters_fit)) in
     let es : entries_read whole p.head (entries ++ rest) ≡ Ok (p.entries, rest) =
     rw (sym g.entry_count) (many-back (entry p.head.kind whole) (entry_bytes p.head.kind) _ (entry_faithful p.head.kind whole) p.entries rest g.entries_fit) in
     preset-is bs (letters ++ (entries ++ rest)) (entries ++ rest) rest p.head p.letters p.entries
     (ap (head_read whole) joins ∙ header-reads whole p.head (letters ++ (entries ++ rest)) g.named g.sized) ls es
 
 pub preset_reads_back : PresetReadsBack
-preset_reads_back h letters entries p rest e = good-reads p rest (good_from h letters entries p e)
+preset_reads_back h letters entries p rest e = sound-reads p rest (sound_from h letters entries p e)
 
 -- What a header that was read is, and the bytes that it was read from.
 record HeaderSent (bs : List ℕ) (head : Head) (tail : List ℕ) : Type 0 where
@@ -258,7 +237,7 @@ header-sent whole bs head tail u e =
     let s₅ = f₅.so r₄ h.k r₅ u₄ k.1 in
     let g₅ = f₅.good r₄ h.k r₅ u₄ k.1 in
     sent-head bs r₁ r₂ r₃ r₄ r₅ kind h head tail s₁ s₂ s₃ s₄ s₅ refl
-    (record { q₁ = g₂.0; q₂ = g₂.1; n₁ = g₃.0; n₂ = g₃.1; l₁ = g₄.1; k₁ = g₅.0; k₂ = g₅.1; few = done.0 })
+    (record { letters_some = g₂.0; letters_most = omega (arith, g₂.1); window_some = g₃.0; window = omega (arith, g₃.1); reach = g₄.1; width_some = g₅.0; width = omega (arith, g₅.1); few = leb-true (h.q ^ (h.n + h.k - 1)) most_words done.0 })
     (ap (λ (x : Head × List ℕ). x.0) done.1) (ap (λ (x : Head × List ℕ). x.1) done.1)
   where
     sent-head : (bs r₁ r₂ r₃ r₄ r₅ : List ℕ) (kind : ChargeKind) (h : Header) (head : Head) (tail : List ℕ)
@@ -272,7 +251,7 @@ header-sent whole bs head tail u e =
 
 -- What a preset that was read is, and the bytes that it was read from.
 record PresetSent (bs : List ℕ) (p : Preset) (rest : List ℕ) : Type 0 where
-  good : Good p
+  good : Sound p
   so : bs ≡ preset_bytes p ++ rest
 
 preset-sent : (bs : List ℕ) (p : Preset) (rest : List ℕ) → Bytes bs → preset bs ≡ Ok (p, rest) → PresetSent bs p rest
@@ -299,7 +278,7 @@ preset-sent bs p rest u e =
   where
     sent_all : (bs r₁ r₂ r₃ : List ℕ) (head : Head) (ls : List ℕ) (es : List Entry) (p : Preset) (rest : List ℕ)
         → bs ≡ sent spell (header_numbers head.header) ++ r₁ → r₁ ≡ sent spell ls ++ r₂ → r₂ ≡ sent (entry_bytes head.kind) es ++ r₃
-        → Good (record { head = head; letters = ls; entries = es }) → record { head = head; letters = ls; entries = es } ≡ p → r₃ ≡ rest → PresetSent bs p rest
+        → Sound (record { head = head; letters = ls; entries = es }) → record { head = head; letters = ls; entries = es } ≡ p → r₃ ≡ rest → PresetSent bs p rest
     sent_all bs r₁ r₂ r₃ head ls es p rest s₁ s₂ s₃ good i j =
         let numbers = sent spell (header_numbers head.header) in
         let letters = sent spell ls in
@@ -323,8 +302,8 @@ whole_is bs p e =
     ended_so whole x [] e = (cc, refl)
     ended_so whole x (b ∷ rest) e = never e
 
-pub whole-good : (bs : List ℕ) (p : Preset) → Bytes bs → whole_preset bs ≡ Ok p → Good p
-whole-good bs p u e = (preset-sent bs p [] u (whole_is bs p e)).good
+pub whole-sound : (bs : List ℕ) (p : Preset) → Bytes bs → whole_preset bs ≡ Ok p → Sound p
+whole-sound bs p u e = (preset-sent bs p [] u (whole_is bs p e)).good
 
 pub whole-so : (bs : List ℕ) (p : Preset) → Bytes bs → whole_preset bs ≡ Ok p → (checked p.head.header p.letters p.entries ≡ Ok p) × (bs ≡ preset_bytes p)
 whole-so bs p u e =
@@ -334,16 +313,16 @@ whole-so bs p u e =
 pub one_spelling : OneSpelling
 one_spelling bs cs p u v e f = (whole-so bs p u e).1 ∙ sym (whole-so cs p v f).1
 
-counted-some : (most q m count : ℕ) → 2 ≤ q → q < 9 → 1 ≤ m → m < suc most → q ^ m ≤ most_words → count ≡ q ^ m → counted most q m ≡ Some count
+counted-some : (most q m count : ℕ) → 2 ≤ q → q ≤ 8 → 1 ≤ m → m ≤ most → q ^ m ≤ most_words → count ≡ q ^ m → counted most q m ≡ Some count
 counted-some most q m count q₁ q₂ m₁ m₂ few e =
-    rw (le-leb 2 q q₁, lt-ltb q 9 q₂, le-leb 1 m m₁, lt-ltb m (suc most) m₂, le-leb (q ^ m) most_words few, e)
+    rw (le-leb 1 m m₁, lt-ltb m (suc most) (omega arith), le-leb 2 q q₁, lt-ltb q 9 (omega arith), le-leb (q ^ m) most_words few, e)
 
 pub preset_sizes : PresetSizes
 preset_sizes bs p u e =
-    let g = whole-good bs p u e in
+    let g = whole-sound bs p u e in
     let h = p.head.header in
     let s = g.sized in (
       ap kind_of (sym g.named) ∙ number-kind p.head.kind,
-      counted-some most_window h.q h.n (length p.letters) s.q₁ s.q₂ s.n₁ s.n₂ (few-part h.q (h.n + h.k - 1) h.n (omega (arith, s.q₁)) (omega (arith, s.k₁)) s.few) g.letter_count,
-      counted-some most_width h.q h.k (length p.entries) s.q₁ s.q₂ s.k₁ s.k₂ (few-part h.q (h.n + h.k - 1) h.k (omega (arith, s.q₁)) (omega (arith, s.n₁)) s.few) g.entry_count,
+      counted-some most_window h.q h.n (length p.letters) s.letters_some s.letters_most s.window_some s.window (letters_few h s) g.letter_count,
+      counted-some most_width h.q h.k (length p.entries) s.letters_some s.letters_most s.width_some s.width (entries_few h s) g.entry_count,
     )

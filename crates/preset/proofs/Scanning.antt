@@ -3,18 +3,19 @@ use Rattle.std.proofs.Common.{◌≡◌, ℕ, ◌-◌, ◌<◌, ◌≤◌, List,
 use Rattle.fault.specs.declared.Stop.TheVariants.{SurplusBytes}
 use Rattle.fault.specs.Limits.{most_words}
 use Rattle.fault.specs.Refusals.{Refusal, refused_at}
-use Rattle.fault.specs.Answers.{strip_after}
+use Rattle.fault.specs.Answers.{and_then, strip_after}
 use Rattle.preset.specs.declared.entry.Entry.{Entry}
-use Rattle.preset.specs.declared.header.Head.{Head}
 use Rattle.preset.specs.declared.reader.Scan.{Scan}
-use Rattle.preset.specs.Answers.{Answer, rest_of}
-use Rattle.preset.specs.Presets.{Preset, preset, head_read, letters_read, entries_read, ended, whole_preset, with_room, whole_reading, header_of}
+use Rattle.preset.specs.Answers.{Answer, passed}
+use Rattle.preset.specs.Heads.{head_of}
+use Rattle.preset.specs.Presets.{Head, Preset, preset, head_read, letters_read, entries_read, ended, whole_preset, with_room, whole_reading}
 use Rattle.preset.specs.Scans.{Scanned}
+use Rattle.preset.proofs.Outcomes.{pair_1}
 
--- what was read before a rest
-rest_ok : {X : Type 0} (a : Answer X) (rest : List ℕ) → rest_of a ≡ Ok rest → (x : X) × (a ≡ Ok (x, rest))
-rest_ok (Ok p) rest e = let r : p.1 ≡ rest = cc in (p.0, ap (λ (bs : List ℕ). Ok (p.0, bs)) r)
-rest_ok (Err f) rest e = let z : ◌≡◌ {A = ℕ} 0 1 = cc in absurd (omega arith)
+-- what was passed over
+passed-ok : {X : Type 0} (a : Answer X) (rest : List ℕ) → passed a ≡ Ok (tt, rest) → (x : X) × (a ≡ Ok (x, rest))
+passed-ok (Ok p) rest e = let r : p.1 ≡ rest = pair_1 e in (p.0, ap (λ (bs : List ℕ). Ok (p.0, bs)) r)
+passed-ok (Err f) rest e = let z : ◌≡◌ {A = ℕ} 0 1 = cc in absurd (omega arith)
 
 ended_some : (whole : ℕ) (p : Preset) (rest : List ℕ) → 0 < length rest → ended whole (p, rest) ≡ Err (refused_at SurplusBytes (whole - length rest))
 ended_some whole p [] h = absurd (omega arith)
@@ -32,24 +33,25 @@ preset-is bs after-head after_letters rest h ls es e₁ e₂ e₃ = rw (e₁, e�
 
 module _ (bs : List ℕ) (s : Scan) (is : Scanned bs s) where
   -- the preset that was found
-  found : (p : Preset) × (preset bs ≡ Ok (p, s.rest.now)) × (p.head ≡ s.head)
+  found : (p : Preset) × (preset bs ≡ Ok (p, s.rest.bytes.now)) × (p.head ≡ head_of s.head)
   found =
-      let ls = rest_ok (letters_read (length bs) s.head s.letters.now) s.entries.now is.letters in
-      let es = rest_ok (entries_read (length bs) s.head s.entries.now) s.rest.now is.entries in
-      (record { head = s.head; letters = ls.0; entries = es.0 }, preset-is bs s.letters.now s.entries.now s.rest.now s.head ls.0 es.0 is.head ls.1 es.1, refl)
+      let h = head_of s.head in
+      let ls = passed-ok (letters_read (length bs) h s.letters.bytes.now) s.entries.bytes.now is.letters in
+      let es = passed-ok (entries_read (length bs) h s.entries.bytes.now) s.rest.bytes.now is.entries in
+      (record { head = h; letters = ls.0; entries = es.0 }, preset-is bs s.letters.bytes.now s.entries.bytes.now s.rest.bytes.now h ls.0 es.0 is.head ls.1 es.1, refl)
 
   module _ (letters : List ℕ) (entries : List Entry) (lroom : most_words ≤ length letters) (eroom : most_words ≤ length entries) where
     roomy : {X : Type 0} (r : Result X Refusal) → with_room (length letters) (length entries) r ≡ r
     roomy r = rw (le-leb most_words (length letters) lroom, le-leb most_words (length entries) eroom)
 
-    pub whole_surplus : 0 < length s.rest.now → whole_reading letters entries bs ≡ Err (refused_at SurplusBytes (length bs - length s.rest.now))
-    whole_surplus h = let f = found in roomy (whole_preset bs) ∙ rw f.1 (ended_some (length bs) f.0 s.rest.now h)
+    pub whole_surplus : 0 < length s.rest.bytes.now → whole_reading letters entries bs ≡ Err (refused_at SurplusBytes (length bs - length s.rest.bytes.now))
+    whole_surplus h = let f = found in roomy (whole_preset bs) ∙ rw f.1 (ended_some (length bs) f.0 s.rest.bytes.now h)
 
-    whole-found : length s.rest.now ≡ 0 → whole_reading letters entries bs ≡ Ok found.0
-    whole-found h = let f = found in roomy (whole_preset bs) ∙ rw f.1 (ended_none (length bs) f.0 s.rest.now h)
+    whole-found : length s.rest.bytes.now ≡ 0 → whole_reading letters entries bs ≡ Ok found.0
+    whole-found h = let f = found in roomy (whole_preset bs) ∙ rw f.1 (ended_none (length bs) f.0 s.rest.bytes.now h)
 
-    pub whole-done : length s.rest.now ≡ 0
-        → (header_of (whole_reading letters entries bs) ≡ Ok s.head.header)
+    pub whole-done : length s.rest.bytes.now ≡ 0
+        → (and_then (whole_reading letters entries bs) (λ p. Ok p.head) ≡ Ok (head_of s.head))
         × (strip_after (λ p. p.letters) letters (whole_reading letters entries bs) ≡ strip_after (λ p. p.0.letters) letters (preset bs))
         × (strip_after (λ p. p.entries) entries (whole_reading letters entries bs) ≡ strip_after (λ p. p.0.entries) entries (preset bs))
-    whole-done h = let w = whole-found h in let e = found.1 in (ap header_of w ∙ ap (λ (h : Head). Ok h.header) found.2, rw (w, e), rw (w, e))
+    whole-done h = let w = whole-found h in let e = found.1 in (rw w (ap (λ (h : Head). Ok h) found.2), rw (w, e), rw (w, e))

@@ -3,9 +3,9 @@ use Rattle.std.proofs.Common.{◌≡◌, ℕ, zero, suc, ◌+◌, ◌-◌, ◌<�
 use Rattle.std.proofs.lemmas.List.{take_more, flat_map_more, take_more_set, drop-set-lt, length-take-le, take-append-drop, drop-drop}
 use Rattle.fault.specs.Refusals.{Refusal}
 use Rattle.fault.specs.Answers.{and_then, over, strip_after}
-use Rattle.preset.specs.Answers.{Answer, many, rest_of}
+use Rattle.preset.specs.Answers.{Answer, many, passed}
 use Rattle.preset.specs.Items.{sent}
-use Rattle.preset.proofs.Strips.{over-over}
+use Rattle.preset.proofs.Fronts.{over-over}
 
 -- items before others that are read
 abbrev pub ahead : {X : Type 0} → List X → Answer (List X) → Answer (List X)
@@ -20,19 +20,19 @@ module _ {X : Type 0} (read : List ℕ → Answer X) where
   many_more : (n i : ℕ) (bs : List ℕ) (x : X) (tail : List ℕ) → i < n → Ok (x, tail) ≡ read bs → many read (n - i) bs ≡ ahead (x ∷ []) (many read (n - (i + 1)) tail)
   many_more n i bs x tail h e = let k : n - i ≡ suc (n - (i + 1)) = omega arith in rw (k, sym e)
 
-  rest-ahead : (xs : List X) (s : Answer (List X)) → rest_of (ahead xs s) ≡ rest_of s
-  rest-ahead xs (Ok p) = refl
-  rest-ahead xs (Err f) = refl
+  passed-ahead : (xs : List X) (s : Answer (List X)) → passed (ahead xs s) ≡ passed s
+  passed-ahead xs (Ok p) = refl
+  passed-ahead xs (Err f) = refl
 
-  pub rest_more : (n i : ℕ) (bs : List ℕ) (x : X) (tail : List ℕ) → i < n → Ok (x, tail) ≡ read bs → rest_of (many read (n - i) bs) ≡ rest_of (many read (n - (i + 1)) tail)
-  rest_more n i bs x tail h e = ap rest_of (many_more n i bs x tail h e) ∙ rest-ahead (x ∷ []) (many read (n - (i + 1)) tail)
+  pub passed_more : (n i : ℕ) (bs : List ℕ) (x : X) (tail : List ℕ) → i < n → Ok (x, tail) ≡ read bs → passed (many read (n - i) bs) ≡ passed (many read (n - (i + 1)) tail)
+  passed_more n i bs x tail h e = ap passed (many_more n i bs x tail h e) ∙ passed-ahead (x ∷ []) (many read (n - (i + 1)) tail)
 
   -- the turn i of n, whose item is refused
   pub many-stop : (n i : ℕ) (bs : List ℕ) (f : Refusal) → i < n → Err f ≡ read bs → many read (n - i) bs ≡ Err f
   many-stop n i bs f h e = let k : n - i ≡ suc (n - (i + 1)) = omega arith in rw (k, sym e)
 
-  pub rest-done : (n i : ℕ) (bs : List ℕ) → n ≤ i → rest_of (many read (n - i) bs) ≡ Ok bs
-  rest-done n i bs h = let k : n - i ≡ 0 = omega arith in rw k
+  pub passed-all : (n i : ℕ) (bs : List ℕ) → n ≤ i → passed (many read (n - i) bs) ≡ Ok (tt, bs)
+  passed-all n i bs h = let k : n - i ≡ 0 = omega arith in rw k
 
   ok-ahead : (xs : List X) (s : Answer (List X)) → is_ok (ahead xs s) ≡ is_ok s
   ok-ahead xs (Ok p) = refl

@@ -19,10 +19,6 @@ abbrev pub many : {X : Type 0} → (List ℕ → Answer X) → ℕ → List ℕ 
 many read zero bs = Ok ([], bs)
 many read (suc n) bs = and_then (read bs) (λ p. and_then (many read n p.1) (λ r. Ok (p.0 ∷ r.0, r.1)))
 
--- the bytes after what was read, of an answer and of a reader that gives nothing else
-abbrev pub rest_of : {X : Type 0} → Answer X → Result (List ℕ) Refusal
-rest_of s = and_then s (λ p. Ok p.1)
-
-abbrev pub passed : Result (Bor (List ℕ)) Fault → Result (List ℕ) Refusal
-passed (Ok p) = Ok p.now
-passed (Err f) = Err (refusal f)
+-- the same answer where what is read is passed over
+abbrev pub passed : {X : Type 0} → Answer X → Answer (Unit {0})
+passed s = and_then s (λ p. Ok (tt, p.1))

@@ -1,10 +1,16 @@
 pub mod Answers
 pub mod Entries
 pub mod Fields
+pub mod Heads
+pub mod Inputs
 pub mod Items
 pub mod Laws
+pub mod Loads
 pub mod Numbers
 pub mod Presets
 pub mod Scans
 pub mod Sending
+pub mod Sizes
+pub mod Sound
+pub mod Strips
 pub mod Writes

@@ -1,14 +1,13 @@
 -- Presets: what one holds, and how it is read. Assumes nothing.
-use Rattle.std.specs.Prelude.{ℕ, suc, ◌+◌, ◌-◌, ◌^◌, cond, ◌&&◌, List, [], ◌∷◌, length, Some, None, Ok, Err, Option, Result, nat_le}
+use Rattle.std.specs.Prelude.{ℕ, suc, ◌+◌, ◌-◌, ◌^◌, cond, ◌&&◌, List, [], ◌∷◌, length, None, Ok, Err, Option, Result, nat_le}
 use Rattle.std.specs.Option.{ok_or, option_map}
 use Rattle.fault.specs.declared.Stop.TheVariants.{UnknownKind, BadAlphabet, BadWindow, BadReach, BadWidth, TooManyWords, SurplusBytes, ShortStrip}
-use Rattle.fault.specs.Limits.{least_letters, most_letters, most_window, most_width, most_words, few_words, within}
+use Rattle.fault.specs.Limits.{least_letters, most_letters, most_window, most_width, most_words, few_words, words, within}
 use Rattle.fault.specs.Refusals.{Refusal, refused_at}
 use Rattle.charge.specs.declared.kind.ChargeKind.{ChargeKind}
 use Rattle.charge.specs.Numbers.{number_of, kind_of}
 use Rattle.fault.specs.Answers.{and_then}
 use Rattle.preset.specs.declared.entry.Entry.{Entry}
-use Rattle.preset.specs.declared.header.Head.{Head}
 use Rattle.preset.specs.declared.header.Header.{Header}
 use Rattle.preset.specs.Answers.{Answer, many}
 use Rattle.preset.specs.Entries.{letter, entry}
@@ -17,10 +16,14 @@ use Rattle.preset.specs.Numbers.{number}
 
 -- how many words of m letters there are, where the alphabet size and m are in range and the words are few
 abbrev pub counted : ℕ → ℕ → ℕ → Option ℕ
-counted most q m =
-    cond (within least_letters (suc most_letters) q && (within 1 (suc most) m && few_words q m)) (Some (q ^ m)) None
+counted most q m = cond (within 1 (suc most) m) (words q m) None
 
--- what a preset holds: its header with the kind that it names, the rule's letters and the density's entries
+-- a header with the kind that it names
+pub record Head : Type 0 where
+  pub kind : ChargeKind
+  pub header : Header
+
+-- what a preset holds: its header, the rule's letters and the density's entries
 pub record Preset : Type 0 where
   pub head : Head
   pub letters : List ℕ

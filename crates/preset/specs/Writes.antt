@@ -9,12 +9,11 @@ use Rattle.charge.specs.Numbers.{kind_of}
 use Rattle.fault.specs.Answers.{and_then}
 use Rattle.fault.specs.Checks.{tested, each_fits}
 use Rattle.preset.specs.declared.entry.Entry.{Entry}
-use Rattle.preset.specs.declared.header.Head.{Head}
 use Rattle.preset.specs.declared.header.Header.{Header}
 use Rattle.preset.specs.Entries.{entry_bytes, fits}
 use Rattle.preset.specs.Items.{sent}
 use Rattle.preset.specs.Numbers.{spell}
-use Rattle.preset.specs.Presets.{Preset}
+use Rattle.preset.specs.Presets.{Head, Preset}
 
 -- what the sizes of a header are held to, in the order of the stop codes
 abbrev pub size_tests : Header → List (Bool × Stop)

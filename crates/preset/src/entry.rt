@@ -1,13 +1,13 @@
 // Entries of a density, as they stand in a preset: a signed and a plain part.
-ghost use Rattle.std.specs.Prelude.{◌≡◌, ◌+◌, ◌≤◌, length, IfOk};
+ghost use Rattle.std.specs.Prelude.{◌≡◌, ◌+◌, ◌≤◌, length};
 ghost use Rattle.fault.specs.Answers.{over};
-ghost use Rattle.preset.specs.Answers.{seen};
 ghost use Rattle.preset.specs.Entries.{signed_part, plain_end, signed_fits, plain_fits, fits, signed_read, plain_read, zig, zag, signed_number, plain_number, part_bytes, entry_bytes};
+ghost use Rattle.preset.specs.Inputs.{Reads};
 ghost use Rattle.preset.specs.Items.{entry_format};
 
-use crate::field::read_field;
+use crate::input::Unread;
 use crate::items::{Encode, Item};
-use crate::number::{put_number, read_number, spelt_len};
+use crate::number::{put_number, spelt_len};
 use crate::shape::Shape;
 use charge::{CHANNEL_SETS, ChargeKind, LEAST_VOICES, MOST_VOICES, PITCH_CLASSES};
 use fault::{Fault, Stop};
@@ -62,28 +62,24 @@ fn from_number(number: u64) -> i64
     if number % 2 == 0 { half } else { -1 - half }
 }
 
-fn read_signed(kind: ChargeKind, whole: usize, input: &[u8]) -> Result<(i64, &[u8]), Fault>
-    requires { length input.now ≤ whole }
-    ensures answer { seen result ≡ signed_read (signed_part kind) whole input.now }
-    ensures rest { IfOk result (λ p. length p.1.now ≤ length input.now) }
+fn read_signed(kind: ChargeKind, input: &mut Unread<'_>) -> Result<i64, Fault>
+    ensures { Reads input.old input.new result (signed_read (signed_part kind)) }
 {
     if !has_signed(kind) {
-        return Ok((0, input));
+        return Ok(0);
     }
-    let (number, rest) = read_number(input, whole - input.len())?;
-    Ok((from_number(number), rest))
+    let number = input.number()?;
+    Ok(from_number(number))
 }
 
-fn read_plain(kind: ChargeKind, whole: usize, input: &[u8]) -> Result<(u64, &[u8]), Fault>
-    requires { length input.now ≤ whole }
-    ensures answer { seen result ≡ plain_read (plain_end kind) whole input.now }
-    ensures rest { IfOk result (λ p. length p.1.now ≤ length input.now) }
+fn read_plain(kind: ChargeKind, input: &mut Unread<'_>) -> Result<u64, Fault>
+    ensures { Reads input.old input.new result (plain_read (plain_end kind)) }
 {
     let Some(end) = plain_below(kind) else {
-        return Ok((0, input));
+        return Ok(0);
     };
-    let (value, rest) = read_field(whole, input, 0, end, Stop::BadEntry)?;
-    Ok((value, rest))
+    let value = input.field(0, end, Stop::BadEntry)?;
+    Ok(value)
 }
 
 fn fits_signed(kind: ChargeKind, value: i64) -> bool
@@ -158,10 +154,10 @@ fn put_part(part: Option<u64>, out: &mut [u8], at: usize) -> usize
 impl Item for Entry {
     ghost format = { entry_format };
 
-    fn read(shape: Shape, whole: usize, input: &[u8]) -> Result<(Entry, &[u8]), Fault> {
-        let (signed, rest) = read_signed(shape.kind, whole, input)?;
-        let (plain, rest) = read_plain(shape.kind, whole, rest)?;
-        Ok((Entry { signed, plain }, rest))
+    fn read(shape: Shape, input: &mut Unread<'_>) -> Result<Entry, Fault> {
+        let signed = read_signed(shape.kind, input)?;
+        let plain = read_plain(shape.kind, input)?;
+        Ok(Entry { signed, plain })
     }
 
     fn fits(self, shape: Shape) -> bool {

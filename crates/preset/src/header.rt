@@ -1,15 +1,13 @@
 // The five numbers that a preset begins with.
-ghost use Rattle.std.specs.Prelude.{◌≡◌, ◌+◌, ◌-◌, ◌^◌, ◌<◌, ◌≤◌, length, IfOk};
-ghost use Rattle.fault.specs.Limits.{most_letters, most_window, most_width, most_words, few_words};
-ghost use Rattle.preset.specs.Answers.{seen};
-ghost use Rattle.preset.specs.Presets.{counted, kind_read, head_read};
-ghost use Rattle.preset.specs.Scans.{Lawful};
+ghost use Rattle.std.specs.Prelude.{◌≡◌};
+ghost use Rattle.fault.specs.Limits.{most_window, most_width};
+ghost use Rattle.preset.specs.Presets.{counted};
+ghost use Rattle.preset.specs.Sizes.{Sized};
 
-use crate::field::read_field;
-use crate::number::read_number;
+use crate::input::Unread;
 use crate::shape::Shape;
 use charge::ChargeKind;
-use fault::limits::{LEAST_LETTERS, MOST_LETTERS, MOST_WIDTH, MOST_WINDOW, MOST_WORDS};
+use fault::limits::{LEAST_LETTERS, MOST_LETTERS, MOST_WIDTH, MOST_WINDOW, word_count};
 use fault::{Fault, Stop};
 
 // The number of the kind of charge, the alphabet size q, the rule's window n and reach l, and the density's
@@ -39,17 +37,55 @@ impl Header {
     }
 }
 
+// How many words of m letters there are, where m is from 1 to `most`.
+fn counted_words(most: u64, q: u64, m: u64) -> Option<usize>
+    ensures { result ≡ counted most q m }
+{
+    if m < 1 || m > most {
+        return None;
+    }
+    word_count(q, m)
+}
+
 // A header that has passed, and the kind that it names.
 #[derive(Clone, Copy)]
 pub(crate) struct Head {
     pub kind: ChargeKind,
     pub header: Header,
+    ghost sized: { Sized header },
 }
 
 impl Head {
+    ghost use Rattle.std.specs.Prelude.{◌^◌, ◌≤◌};
+    ghost use Rattle.fault.specs.Limits.{most_words};
+    ghost use Rattle.preset.specs.Heads.{heads};
+    ghost use Rattle.preset.specs.Inputs.{Reads};
+    ghost use Rattle.preset.specs.Presets.{head_read};
+
+    // Reads a header, each number in its range.
+    pub(crate) fn read(input: &mut Unread<'_>) -> Result<Head, Fault>
+        ensures { Reads input.old input.new (heads result) head_read }
+    {
+        let kind = input.kind()?;
+        let q = input.field(LEAST_LETTERS, MOST_LETTERS + 1, Stop::BadAlphabet)?;
+        let n = input.field(1, MOST_WINDOW + 1, Stop::BadWindow)?;
+        let l = input.field(0, n, Stop::BadReach)?;
+        let place = input.place();
+        let k = input.field(1, MOST_WIDTH + 1, Stop::BadWidth)?;
+        word_count(q, n + k - 1).ok_or(Stop::TooManyWords.at(place))?;
+        let kind_number = u64::from(kind);
+        let header = Header {
+            kind: kind_number,
+            q,
+            n,
+            l,
+            k,
+        };
+        Ok(Head { kind, header })
+    }
+
     // What the letters and the entries after the header are held to.
     pub(crate) fn shape(self) -> Shape
-        requires { self.header.q ≤ most_letters }
         ensures { (result.kind ≡ self.kind) × (result.q ≡ self.header.q) }
     {
         Shape {
@@ -57,90 +93,18 @@ impl Head {
             q: self.header.q as u8,
         }
     }
-}
 
-// Whether there are at most MOST_WORDS words of m letters.
-pub(crate) fn few_words(q: u64, m: u64) -> bool
-    requires { m < 2 ^ 32 }
-    ensures { result ≡ few_words q m }
-{
-    match q.checked_pow(m as u32) {
-        Some(words) => words <= MOST_WORDS,
-        None => false,
+    pub(crate) fn letter_count(self) -> usize
+        ensures count { result ≡ self.header.q ^ self.header.n }
+        ensures few { result ≤ most_words }
+    {
+        self.header.q.pow(self.header.n as u32) as usize
     }
-}
 
-// How many words of m letters there are, where they are few.
-pub(crate) fn word_count(q: u64, m: u64) -> usize
-    requires small { m < 2 ^ 32 }
-    requires few { q ^ m ≤ most_words }
-    ensures { result ≡ q ^ m }
-{
-    q.pow(m as u32) as usize
-}
-
-// The same where the alphabet size or m may be out of range, or the words too many.
-fn counted_words(most: u64, q: u64, m: u64) -> Option<usize>
-    requires { most < 2 ^ 32 }
-    ensures { result ≡ counted most q m }
-{
-    if q < LEAST_LETTERS || q > MOST_LETTERS {
-        return None;
+    pub(crate) fn entry_count(self) -> usize
+        ensures count { result ≡ self.header.q ^ self.header.k }
+        ensures few { result ≤ most_words }
+    {
+        self.header.q.pow(self.header.k as u32) as usize
     }
-    if m < 1 || m > most || !few_words(q, m) {
-        return None;
-    }
-    Some(word_count(q, m))
-}
-
-// The kind at the front of the input, the last part of an input of `whole` bytes.
-fn read_kind(whole: usize, input: &[u8]) -> Result<(ChargeKind, &[u8]), Fault>
-    requires { length input.now ≤ whole }
-    ensures answer { seen result ≡ kind_read whole input.now }
-    ensures rest { IfOk result (λ p. length p.1.now ≤ length input.now) }
-{
-    let place = whole - input.len();
-    let (number, rest) = read_number(input, place)?;
-    let Ok(kind) = ChargeKind::try_from(number) else {
-        return Err(Fault {
-            stop: Stop::UnknownKind,
-            place,
-        });
-    };
-    Ok((kind, rest))
-}
-
-// The header at the front of the input, each number in its range, and the bytes after it.
-pub(crate) fn read_head(input: &[u8]) -> Result<(Head, &[u8]), Fault>
-    ensures answer { seen result ≡ head_read (length input.now) input.now }
-    ensures rest { IfOk result (λ p. length p.1.now ≤ length input.now) }
-    ensures lawful { IfOk result (λ p. Lawful p.0.header) }
-{
-    let whole = input.len();
-    let (kind, rest) = read_kind(whole, input)?;
-    let (q, rest) = read_field(
-        whole,
-        rest,
-        LEAST_LETTERS,
-        MOST_LETTERS + 1,
-        Stop::BadAlphabet,
-    )?;
-    let (n, rest) = read_field(whole, rest, 1, MOST_WINDOW + 1, Stop::BadWindow)?;
-    let (l, rest) = read_field(whole, rest, 0, n, Stop::BadReach)?;
-    let place = whole - rest.len();
-    let (k, rest) = read_field(whole, rest, 1, MOST_WIDTH + 1, Stop::BadWidth)?;
-    if !few_words(q, n + k - 1) {
-        return Err(Fault {
-            stop: Stop::TooManyWords,
-            place,
-        });
-    }
-    let header = Header {
-        kind: u64::from(kind),
-        q,
-        n,
-        l,
-        k,
-    };
-    Ok((Head { kind, header }, rest))
 }

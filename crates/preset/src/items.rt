@@ -1,11 +1,13 @@
 // Letters and entries alike: many items, one after another, read from bytes or written as bytes.
-ghost use Rattle.std.specs.Prelude.{◌≡◌, ℕ, ◌+◌, ◌≤◌, true, List, length, is_ok, IfOk, Ok};
+ghost use Rattle.std.specs.Prelude.{◌≡◌, ℕ, ◌+◌, ◌≤◌, true, List, length, is_ok, Ok};
 ghost use Rattle.fault.specs.Answers.{plainly, over, strip_after};
 ghost use Rattle.fault.specs.Checks.{each_fits};
-ghost use Rattle.preset.specs.Answers.{seen, many, rest_of, passed};
+ghost use Rattle.preset.specs.Answers.{many, passed};
+ghost use Rattle.preset.specs.Inputs.{Reads};
 ghost use Rattle.preset.specs.Items.{Format, sent};
 ghost use Rattle.preset.specs.declared.shape.Shape.{Shape};
 
+use crate::input::Unread;
 use crate::shape::Shape;
 use fault::{Fault, Stop};
 
@@ -13,11 +15,9 @@ use fault::{Fault, Stop};
 pub(crate) trait Item: Copy {
     ghost format: { Format Self };
 
-    // The item at the front of the input, the last part of an input of `whole` bytes, and the bytes after it.
-    fn read(shape: Shape, whole: usize, input: &[u8]) -> Result<(Self, &[u8]), Fault>
-        requires { length input.now ≤ whole }
-        ensures answer { seen result ≡ format.reads shape whole input.now }
-        ensures rest { IfOk result (λ p. length p.1.now ≤ length input.now) };
+    // Reads an item.
+    fn read(shape: Shape, input: &mut Unread<'_>) -> Result<Self, Fault>
+        ensures { Reads input.old input.new result (format.reads shape) };
 
     // Whether the item is allowed.
     fn fits(self, shape: Shape) -> bool
@@ -44,50 +44,36 @@ pub(crate) trait Encode: Copy {
         ensures strip { out.new ≡ over out.old at (bytes shape self) };
 }
 
-// Passes over `count` items, and hands on the bytes after them.
-pub(crate) fn skip<T: Item>(
-    shape: Shape,
-    whole: usize,
-    input: &[u8],
-    count: usize,
-) -> Result<&[u8], Fault>
-    requires { length input.now ≤ whole }
-    ensures answer { passed result ≡ rest_of (many (T.Item.format.reads shape whole) count input.now) }
-    ensures rest { IfOk result (λ p. length p.now ≤ length input.now) }
+// Passes over `count` items.
+pub(crate) fn skip<T: Item>(shape: Shape, input: &mut Unread<'_>, count: usize) -> Result<(), Fault>
+    ensures { Reads input.old input.new result (λ whole bs. passed (many (T.Item.format.reads shape whole) count bs)) }
 {
-    let mut rest = input;
-    for i in 0..count {
-        let (item, tail) = T::read(shape, whole, rest)?;
-        rest = tail;
+    for _ in 0..count {
+        T::read(shape, input)?;
     }
-    Ok(rest)
+    Ok(())
 }
 
-// The item at the front of the input, which is there, and the bytes after it.
-fn read_there<T: Item>(shape: Shape, whole: usize, input: &[u8]) -> (T, &[u8])
-    requires within { length input.now ≤ whole }
-    requires there { is_ok (T.Item.format.reads shape whole input.now) ≡ true }
-    ensures answer { T.Item.format.reads shape whole input.now ≡ Ok (result.0, result.1.now) }
-    ensures rest { length result.1.now ≤ length input.now }
+// Reads an item that is there.
+fn read_there<T: Item>(shape: Shape, input: &mut Unread<'_>) -> T
+    requires { is_ok (T.Item.format.reads shape input.old.whole input.old.bytes.now) ≡ true }
+    ensures { Reads input.old input.new (Ok result) (T.Item.format.reads shape) }
 {
-    let Ok(item) = T::read(shape, whole, input) else {
+    let Ok(item) = T::read(shape, input) else {
         unreachable()
     };
     item
 }
 
 // Reads `count` items, which are there, into the front of the strip.
-pub(crate) fn fill<T: Item>(shape: Shape, whole: usize, input: &[u8], strip: &mut [T], count: usize)
-    requires within { length input.now ≤ whole }
+pub(crate) fn fill<T: Item>(shape: Shape, input: Unread<'_>, strip: &mut [T], count: usize)
     requires room { count ≤ length strip.old }
-    requires there { is_ok (many (T.Item.format.reads shape whole) count input.now) ≡ true }
-    ensures { strip.new ≡ strip_after (λ p. p.0) strip.old (many (T.Item.format.reads shape whole) count input.now) }
+    requires there { is_ok (many (T.Item.format.reads shape input.whole) count input.bytes.now) ≡ true }
+    ensures { strip.new ≡ strip_after (λ p. p.0) strip.old (many (T.Item.format.reads shape input.entry.whole) count input.entry.bytes.now) }
 {
-    let mut rest = input;
+    let mut input = input;
     for i in 0..count {
-        let (item, tail) = read_there::<T>(shape, whole, rest);
-        strip[i] = item;
-        rest = tail;
+        strip[i] = read_there::<T>(shape, &mut input);
     }
 }
 
@@ -97,10 +83,7 @@ pub(crate) fn check<T: Item>(shape: Shape, items: &[T]) -> Result<(), Fault>
 {
     for (i, item) in items.iter().enumerate() {
         if !item.fits(shape) {
-            return Err(Fault {
-                stop: T::stop(),
-                place: i,
-            });
+            return Err(T::stop().at(i));
         }
     }
     Ok(())

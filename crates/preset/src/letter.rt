@@ -2,7 +2,7 @@
 ghost use Rattle.preset.specs.Items.{letter_format};
 ghost use Rattle.preset.specs.Numbers.{spell};
 
-use crate::field::read_field;
+use crate::input::Unread;
 use crate::items::{Encode, Item};
 use crate::number::{put_number, spelt_len};
 use crate::shape::Shape;
@@ -11,9 +11,9 @@ use fault::{Fault, Stop};
 impl Item for u8 {
     ghost format = { letter_format };
 
-    fn read(shape: Shape, whole: usize, input: &[u8]) -> Result<(u8, &[u8]), Fault> {
-        let (value, rest) = read_field(whole, input, 0, shape.q as u64, Stop::BadLetter)?;
-        Ok((value as u8, rest))
+    fn read(shape: Shape, input: &mut Unread<'_>) -> Result<u8, Fault> {
+        let value = input.field(0, shape.q as u64, Stop::BadLetter)?;
+        Ok(value as u8)
     }
 
     fn fits(self, shape: Shape) -> bool {

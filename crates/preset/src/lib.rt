@@ -5,19 +5,23 @@
 #![tactic(auto)]
 
 mod entry;
-mod field;
 mod header;
+mod input;
 mod items;
 mod letter;
+mod loaded;
 mod number;
 mod reader;
 mod sent;
 mod shape;
+mod strips;
 mod writer;
 
 pub use entry::Entry;
 pub use header::Header;
+pub use loaded::Loaded;
 pub use number::{MOST_NUMBER, read_number, write_number};
 pub use reader::{STRIP, read_preset, read_whole};
 pub use sent::Sent;
+pub use strips::Strips;
 pub use writer::write_preset;

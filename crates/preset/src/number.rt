@@ -28,43 +28,28 @@ pub fn read_number(input: &[u8], place: usize) -> Result<(u64, &[u8]), Fault>
     ensures refusals { NumberRefusals }
 {
     let [first, ..] = input else {
-        return Err(Fault {
-            stop: Stop::CutShort,
-            place,
-        });
+        return Err(Stop::CutShort.at(place));
     };
     if *first == 0x80 {
-        return Err(Fault {
-            stop: Stop::Misspelt,
-            place,
-        });
+        return Err(Stop::Misspelt.at(place));
     }
     let mut rest = input;
     let mut high: u64 = 0;
     for i in 0..MOST_BYTES {
         let [byte, tail @ ..] = rest else {
-            return Err(Fault {
-                stop: Stop::CutShort,
-                place,
-            });
+            return Err(Stop::CutShort.at(place));
         };
         let value = high * 128 + (*byte % 128) as u64;
         if ends_number(*byte) {
             if value > MOST_NUMBER {
-                return Err(Fault {
-                    stop: Stop::Misspelt,
-                    place,
-                });
+                return Err(Stop::Misspelt.at(place));
             }
             return Ok((value, tail));
         }
         high = value;
         rest = tail;
     }
-    Err(Fault {
-        stop: Stop::Misspelt,
-        place,
-    })
+    Err(Stop::Misspelt.at(place))
 }
 
 // How many bytes a number takes.
@@ -124,16 +109,10 @@ fn write_at(value: u64, out: &mut [u8], at: usize) -> Result<usize, Fault>
     ensures strip { out.new ≡ spelt_over out.old at (spelling out.old at value) }
 {
     if value > MOST_NUMBER {
-        return Err(Fault {
-            stop: Stop::Misspelt,
-            place: 0,
-        });
+        return Err(Stop::Misspelt.at(0));
     }
     if at > out.len() || out.len() - at < spelt_len(value) {
-        return Err(Fault {
-            stop: Stop::ShortStrip,
-            place: 0,
-        });
+        return Err(Stop::ShortStrip.at(0));
     }
     Ok(put_number(value, out, at))
 }

@@ -1,16 +1,18 @@
 // Presets read from bytes into lent strips.
-ghost use Rattle.std.specs.Prelude.{◌≡◌, ◌-◌, ◌≤◌, length, Err, MatchResult};
+ghost use Rattle.std.specs.Prelude.{◌≡◌, ◌-◌, ◌≤◌, length, Ok, Err, MatchResult};
 ghost use Rattle.fault.specs.Limits.{most_words};
 ghost use Rattle.fault.specs.Refusals.{refusal, refused_at};
 ghost use Rattle.fault.specs.declared.Stop.TheVariants.{SurplusBytes};
-ghost use Rattle.fault.specs.Answers.{plainly, strip_after};
+ghost use Rattle.fault.specs.Answers.{plainly, and_then, strip_after};
+ghost use Rattle.preset.specs.Heads.{heads};
 ghost use Rattle.preset.specs.Answers.{seen};
 ghost use Rattle.preset.specs.Laws.{PresetWritesBack, OneSpelling, PresetSizes};
 ghost use Rattle.preset.specs.Presets.{preset as preset-at, with_room, reading, whole_reading, header_of, header_and_rest};
 ghost use Rattle.preset.specs.Scans.{Scanned};
 
 use crate::entry::Entry;
-use crate::header::{Head, Header, read_head, word_count};
+use crate::header::{Head, Header};
+use crate::input::Unread;
 use crate::items::{fill, skip};
 use fault::limits::MOST_WORDS;
 use fault::{Fault, Stop};
@@ -22,21 +24,22 @@ pub const STRIP: usize = MOST_WORDS as usize;
 #[derive(Drop)]
 pub(crate) struct Scan<'a> {
     pub head: Head,
-    pub letters: &'a [u8],
-    pub entries: &'a [u8],
-    pub rest: &'a [u8],
+    pub letters: Unread<'a>,
+    pub entries: Unread<'a>,
+    pub rest: Unread<'a>,
 }
 
 // The first pass: everything is checked, and nothing is written.
 fn find_parts(input: &[u8]) -> Result<Scan<'_>, Fault>
     ensures { MatchResult result (Scanned input.now) (λ f. preset-at input.now ≡ Err (refusal f)) }
 {
-    let whole = input.len();
-    let (head, letters) = read_head(input)?;
-    let header = head.header;
+    let mut rest = Unread::new(input);
+    let head = Head::read(&mut rest)?;
     let shape = head.shape();
-    let entries = skip::<u8>(shape, whole, letters, word_count(header.q, header.n))?;
-    let rest = skip::<Entry>(shape, whole, entries, word_count(header.q, header.k))?;
+    let letters = rest;
+    skip::<u8>(shape, &mut rest, head.letter_count())?;
+    let entries = rest;
+    skip::<Entry>(shape, &mut rest, head.entry_count())?;
     Ok(Scan {
         head,
         letters,
@@ -50,10 +53,7 @@ fn find_parts_for(input: &[u8], letters: usize, entries: usize) -> Result<Scan<'
     ensures { MatchResult result (λ s. Scanned input.now s × (most_words ≤ letters) × (most_words ≤ entries)) (λ f. with_room letters entries (preset-at input.now) ≡ Err (refusal f)) }
 {
     if letters < STRIP || entries < STRIP {
-        return Err(Fault {
-            stop: Stop::ShortStrip,
-            place: 0,
-        });
+        return Err(Stop::ShortStrip.at(0));
     }
     let scan = find_parts(input)?;
     Ok(scan)
@@ -67,23 +67,9 @@ fn fill_strips(input: &[u8], scan: Scan, letters: &mut [u8], entries: &mut [Entr
     ensures letters { letters.new ≡ strip_after (λ p. p.0.letters) letters.old (preset-at input.now) }
     ensures entries { entries.new ≡ strip_after (λ p. p.0.entries) entries.old (preset-at input.now) }
 {
-    let whole = input.len();
-    let header = scan.head.header;
     let shape = scan.head.shape();
-    fill::<u8>(
-        shape,
-        whole,
-        scan.letters,
-        letters,
-        word_count(header.q, header.n),
-    );
-    fill::<Entry>(
-        shape,
-        whole,
-        scan.entries,
-        entries,
-        word_count(header.q, header.k),
-    );
+    fill::<u8>(shape, scan.letters, letters, scan.head.letter_count());
+    fill::<Entry>(shape, scan.entries, entries, scan.head.entry_count());
 }
 
 // The preset at the front of the input goes to the front of the strips, and the bytes after it are handed on.
@@ -99,23 +85,38 @@ pub fn read_preset<'a>(
 {
     let scan = find_parts_for(input, letters.len(), entries.len())?;
     let header = scan.head.header;
-    let rest = scan.rest;
+    let rest = scan.rest.bytes;
     fill_strips(input, scan, letters, entries);
     Ok((header, rest))
 }
 
-// The refusal of the bytes that follow a preset in an input of `whole` bytes.
-fn surplus(whole: usize, rest: &[u8]) -> Fault
-    requires { length rest.now ≤ whole }
-    ensures { refusal result ≡ refused_at SurplusBytes (whole - length rest.now) }
+// The refusal of the bytes that follow a preset.
+fn surplus(rest: &Unread<'_>) -> Fault
+    ensures { refusal result ≡ refused_at SurplusBytes (rest.now.whole - length rest.now.bytes.now) }
 {
-    Fault {
-        stop: Stop::SurplusBytes,
-        place: whole - rest.len(),
-    }
+    Stop::SurplusBytes.at(rest.place())
 }
 
-// The same where the input is one preset and no more.
+// The same where the input is one preset and no more. The answer is the preset's head.
+pub(crate) fn read_parts(
+    input: &[u8],
+    letters: &mut [u8],
+    entries: &mut [Entry],
+) -> Result<Head, Fault>
+    ensures answer { plainly (heads result) ≡ and_then (whole_reading letters.old entries.old input.now) (λ p. Ok p.head) }
+    ensures letters { letters.new ≡ strip_after (λ p. p.letters) letters.old (whole_reading letters.old entries.old input.now) }
+    ensures entries { entries.new ≡ strip_after (λ p. p.entries) entries.old (whole_reading letters.old entries.old input.now) }
+{
+    let scan = find_parts_for(input, letters.len(), entries.len())?;
+    if !scan.rest.bytes.is_empty() {
+        return Err(surplus(&scan.rest));
+    }
+    let head = scan.head;
+    fill_strips(input, scan, letters, entries);
+    Ok(head)
+}
+
+// The preset that the whole input is goes to the front of the strips.
 pub fn read_whole(input: &[u8], letters: &mut [u8], entries: &mut [Entry]) -> Result<Header, Fault>
     ensures answer { plainly result ≡ header_of (whole_reading letters.old entries.old input.now) }
     ensures letters { letters.new ≡ strip_after (λ p. p.letters) letters.old (whole_reading letters.old entries.old input.now) }
@@ -123,11 +124,6 @@ pub fn read_whole(input: &[u8], letters: &mut [u8], entries: &mut [Entry]) -> Re
     ensures one_spelling { OneSpelling }
     ensures sizes { PresetSizes }
 {
-    let scan = find_parts_for(input, letters.len(), entries.len())?;
-    if !scan.rest.is_empty() {
-        return Err(surplus(input.len(), scan.rest));
-    }
-    let header = scan.head.header;
-    fill_strips(input, scan, letters, entries);
-    Ok(header)
+    let head = read_parts(input, letters, entries)?;
+    Ok(head.header)
 }

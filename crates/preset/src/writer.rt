@@ -1,18 +1,22 @@
 // Presets written as bytes from lent strips.
-ghost use Rattle.std.specs.Prelude.{◌≡◌, ◌≤◌, length, IfOk, Err, MatchResult, OnOk};
+ghost use Rattle.std.specs.Prelude.{◌≡◌, ◌≤◌, length, Err, MatchResult, OnOk};
 ghost use Rattle.fault.specs.Refusals.{refusal};
-ghost use Rattle.fault.specs.Limits.{most_letters, most_words};
 ghost use Rattle.fault.specs.Answers.{plainly, front, strip_after};
 ghost use Rattle.fault.specs.Checks.{tested};
+ghost use Rattle.preset.specs.Heads.{head_of, heads};
 ghost use Rattle.preset.specs.Laws.{PresetReadsBack};
-ghost use Rattle.preset.specs.Scans.{Lawful, Checked};
+ghost use Rattle.preset.specs.Loads.{loaded, preset_of};
+ghost use Rattle.preset.specs.Scans.{Checked};
+ghost use Rattle.preset.specs.Sizes.{Sized};
 ghost use Rattle.preset.specs.Writes.{size_tests, head_checked, header_numbers, contents_checked, checked, preset_bytes, writing, written};
 
 use crate::entry::Entry;
-use crate::header::{Head, Header, few_words, word_count};
+use crate::header::{Head, Header};
+use crate::input::is_within;
 use crate::items::{Encode, check, put_all, total_len};
+use crate::loaded::Loaded;
 use charge::ChargeKind;
-use fault::limits::{LEAST_LETTERS, MOST_LETTERS, MOST_WIDTH, MOST_WINDOW};
+use fault::limits::{LEAST_LETTERS, MOST_LETTERS, MOST_WIDTH, MOST_WINDOW, word_count};
 use fault::{Fault, Stop};
 
 fn header_numbers(header: Header) -> [u64; 5]
@@ -23,52 +27,22 @@ fn header_numbers(header: Header) -> [u64; 5]
 
 fn check_sizes(header: Header) -> Result<(), Fault>
     ensures answer { plainly result ≡ tested (size_tests header) }
-    ensures lawful { OnOk result (Lawful header) }
+    ensures sized { OnOk result (Sized header) }
 {
-    if header.q < LEAST_LETTERS || header.q > MOST_LETTERS {
-        return Err(Fault {
-            stop: Stop::BadAlphabet,
-            place: 0,
-        });
-    }
-    if header.n < 1 || header.n > MOST_WINDOW {
-        return Err(Fault {
-            stop: Stop::BadWindow,
-            place: 0,
-        });
-    }
-    if header.l >= header.n {
-        return Err(Fault {
-            stop: Stop::BadReach,
-            place: 0,
-        });
-    }
-    if header.k < 1 || header.k > MOST_WIDTH {
-        return Err(Fault {
-            stop: Stop::BadWidth,
-            place: 0,
-        });
-    }
-    if !few_words(header.q, header.n + header.k - 1) {
-        return Err(Fault {
-            stop: Stop::TooManyWords,
-            place: 0,
-        });
-    }
+    Stop::BadAlphabet.unless(is_within(header.q, LEAST_LETTERS, MOST_LETTERS + 1))?;
+    Stop::BadWindow.unless(is_within(header.n, 1, MOST_WINDOW + 1))?;
+    Stop::BadReach.unless(header.l < header.n)?;
+    Stop::BadWidth.unless(is_within(header.k, 1, MOST_WIDTH + 1))?;
+    Stop::TooManyWords.unless(word_count(header.q, header.n + header.k - 1).is_some())?;
     Ok(())
 }
 
 // A header that may be written, with the kind that it names.
 fn check_head(header: Header) -> Result<Head, Fault>
-    ensures answer { plainly result ≡ head_checked header }
-    ensures lawful { IfOk result (λ h. Lawful header) }
-    ensures same { IfOk result (λ h. h.header ≡ header) }
+    ensures { plainly (heads result) ≡ head_checked header }
 {
     let Ok(kind) = ChargeKind::try_from(header.kind) else {
-        return Err(Fault {
-            stop: Stop::UnknownKind,
-            place: 0,
-        });
+        return Err(Stop::UnknownKind.at(0));
     };
     check_sizes(header)?;
     Ok(Head { kind, header })
@@ -76,8 +50,7 @@ fn check_head(header: Header) -> Result<Head, Fault>
 
 // Each letter and each entry is allowed.
 fn check_contents(head: Head, letters: &[u8], entries: &[Entry]) -> Result<(), Fault>
-    requires { head.header.q ≤ most_letters }
-    ensures { plainly result ≡ contents_checked (record { head = head; letters = letters.now; entries = entries.now }) }
+    ensures { plainly result ≡ contents_checked (record { head = head_of head; letters = letters.now; entries = entries.now }) }
 {
     let shape = head.shape();
     check::<u8>(shape, letters)?;
@@ -90,44 +63,45 @@ fn check_preset(header: Header, letters: &[u8], entries: &[Entry]) -> Result<Hea
     ensures { MatchResult result (Checked header letters.now entries.now) (λ f. checked header letters.now entries.now ≡ Err (refusal f)) }
 {
     let head = check_head(header)?;
-    let letter_count = word_count(header.q, header.n);
-    let entry_count = word_count(header.q, header.k);
+    let letter_count = head.letter_count();
+    let entry_count = head.entry_count();
     if letters.len() < letter_count || entries.len() < entry_count {
-        return Err(Fault {
-            stop: Stop::ShortStrip,
-            place: 0,
-        });
+        return Err(Stop::ShortStrip.at(0));
     }
-    check_contents(head, &letters[0..letter_count], &entries[0..entry_count])?;
+    check_contents(head, &letters[..letter_count], &entries[..entry_count])?;
     Ok(head)
 }
 
-// How many bytes a preset takes.
-fn preset_len(head: Head, letters: &[u8], entries: &[Entry]) -> usize
-    requires alphabet { head.header.q ≤ most_letters }
-    requires letters { length letters.now ≤ most_words }
-    requires entries { length entries.now ≤ most_words }
-    ensures { result ≡ length (preset_bytes (record { head = head; letters = letters.now; entries = entries.now })) }
+// The preset of a header and of the fronts of two strips.
+fn load<'a>(header: Header, letters: &'a [u8], entries: &'a [Entry]) -> Result<Loaded<'a>, Fault>
+    ensures { loaded result ≡ checked header letters.now entries.now }
 {
-    let shape = head.shape();
-    let numbers = header_numbers(head.header);
+    let head = check_preset(header, letters, entries)?;
+    Ok(Loaded::front(head, letters, entries))
+}
+
+// How many bytes a preset takes.
+fn preset_len(preset: &Loaded<'_>) -> usize
+    ensures { result ≡ length (preset_bytes (preset_of preset.now)) }
+{
+    let shape = preset.shape();
+    let numbers = header_numbers(preset.header);
     total_len::<u64>(shape, &numbers)
-        + total_len::<u8>(shape, letters)
-        + total_len::<Entry>(shape, entries)
+        + total_len::<u8>(shape, preset.letters)
+        + total_len::<Entry>(shape, preset.entries)
 }
 
 // Writes a preset to the front of the strip, where there is room, and answers how many bytes it took.
-fn put_preset(head: Head, letters: &[u8], entries: &[Entry], out: &mut [u8]) -> usize
-    requires alphabet { head.header.q ≤ most_letters }
-    requires room { length (preset_bytes (record { head = head; letters = letters.now; entries = entries.now })) ≤ length out.old }
-    ensures end { result ≡ length (preset_bytes (record { head = head; letters = letters.now; entries = entries.now })) }
-    ensures strip { out.new ≡ front (preset_bytes (record { head = head; letters = letters.now; entries = entries.now })) out.old }
+fn put_preset(preset: &Loaded<'_>, out: &mut [u8]) -> usize
+    requires { length (preset_bytes (preset_of preset.now)) ≤ length out.old }
+    ensures end { result ≡ length (preset_bytes (preset_of preset.now)) }
+    ensures strip { out.new ≡ front (preset_bytes (preset_of preset.now)) out.old }
 {
-    let shape = head.shape();
-    let numbers = header_numbers(head.header);
+    let shape = preset.shape();
+    let numbers = header_numbers(preset.header);
     let after_header = put_all::<u64>(shape, &numbers, out, 0);
-    let after_letters = put_all::<u8>(shape, letters, out, after_header);
-    put_all::<Entry>(shape, entries, out, after_letters)
+    let after_letters = put_all::<u8>(shape, preset.letters, out, after_header);
+    put_all::<Entry>(shape, preset.entries, out, after_letters)
 }
 
 // Writes a preset to the front of the byte strip and answers how many bytes it takes. Of strips that are longer
@@ -142,14 +116,7 @@ pub fn write_preset(
     ensures strip { out.new ≡ strip_after (λ bytes. bytes) out.old (writing header letters.now entries.now out.old) }
     ensures reads_back { PresetReadsBack }
 {
-    let head = check_preset(header, letters, entries)?;
-    let letters = &letters[0..word_count(header.q, header.n)];
-    let entries = &entries[0..word_count(header.q, header.k)];
-    if out.len() < preset_len(head, letters, entries) {
-        return Err(Fault {
-            stop: Stop::ShortStrip,
-            place: 0,
-        });
-    }
-    Ok(put_preset(head, letters, entries, out))
+    let preset = load(header, letters, entries)?;
+    Stop::ShortStrip.unless(preset_len(&preset) <= out.len())?;
+    Ok(put_preset(&preset, out))
 }

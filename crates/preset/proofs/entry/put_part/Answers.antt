@@ -1,7 +1,7 @@
 use Rattle.std.proofs.Common.{◌≡◌, [], length, sym, ap, ◌∙◌, arith}
 use Rattle.fault.specs.Answers.{over}
 use Rattle.preset.specs.Entries.{part_bytes}
-use Rattle.preset.proofs.Strips.{over_none}
+use Rattle.preset.proofs.Fronts.{over_none}
 use Rattle.preset.proofs.entry.put_part.Goals as goal
 
 pub returns-in-None : goal.returns-in-None

@@ -5,7 +5,7 @@ use Rattle.preset.proofs.items.check.Goals as goal
 pub returns-then-not-fits : goal.returns-then-not-fits
 returns-then-not-fits g c =
     let F = g.T.Item.format in
-    rw c.stop.ensures (sym (c.loop-i.invariant ∙ fits-stop (F.fits c.args.shape) F.stop c.args.items.now c.loop-i.i c.index-items-i.result c.loop-i-test.true c.index-items-i.is (sym c.if-not-fits.ensures)))
+    rw (c.at.ensures, c.stop.ensures) (sym (c.loop-i.invariant ∙ fits-stop (F.fits c.args.shape) F.stop c.args.items.now c.loop-i.i c.index-items-i.result c.loop-i-test.true c.index-items-i.is (sym c.if-not-fits.ensures)))
 
 pub loop-i-preserved : goal.loop-i-preserved
 loop-i-preserved g c =

@@ -2,7 +2,7 @@ use Rattle.std.proofs.Common.{◌+◌, length, ap, ◌∙◌, ap₂, arith}
 use Rattle.std.proofs.lemmas.List.{take_all}
 use Rattle.fault.specs.Answers.{over}
 use Rattle.preset.specs.Items.{sent}
-use Rattle.preset.proofs.Strips.{over_none}
+use Rattle.preset.proofs.Fronts.{over_none}
 use Rattle.preset.proofs.Turns.{length-sent_more, put-room, put_more}
 use Rattle.preset.proofs.items.put_all.Goals as goal
 

@@ -1,24 +1,29 @@
 use Rattle.std.proofs.Common.{sym, ap, ◌∙◌, arith}
 use Rattle.std.proofs.lemmas.Result.{err_from_is_err_and}
-use Rattle.preset.specs.Answers.{rest_of}
-use Rattle.preset.proofs.Turns.{rest_more, many-stop, rest-done}
+use Rattle.preset.specs.Answers.{passed}
+use Rattle.preset.proofs.Turns.{passed_more, many-stop, passed-all}
 use Rattle.preset.proofs.items.skip.Goals as goal
 
-pub returns-in_err-item : goal.returns-in_err-item
-returns-in_err-item g c =
-    let read = g.T.Item.format.reads c.args.shape c.args.whole in
+pub returns-in_err-read : goal.returns-in_err-read
+returns-in_err-read g c =
+    let input = c.args.input.now in
+    let read = g.T.Item.format.reads c.args.shape input.whole in
+    let inv = c.loop.invariant in
+    let e = rw inv.0 at c.in_err-read.ensures.answer_is in
     let p = err_from_is_err_and c.from_residual.result c.from_residual.ensures.1 in
-    let s = many-stop read c.args.count c.loop-i.i c.loop-i.rest.now _ (omega arith) c.in_err-item.ensures.answer in
-    rw (p.1, p.2) (record { answer = sym (c.loop-i.invariant.1 ∙ ap rest_of s); rest = tt })
+    let s = many-stop read c.args.count c.loop.counter c.loop.input.bytes.now _ (omega arith) e in
+    rw (p.1, p.2) (record { answer_is = sym (inv.1 ∙ ap passed s); same_input = c.in_err-read.ensures.same_input ∙ inv.0 })
 
-pub loop-i-preserved : goal.loop-i-preserved
-loop-i-preserved g c =
-    let read = g.T.Item.format.reads c.args.shape c.args.whole in
-    let e = c.in_ok-item.ensures in
-    let m = rest_more read c.args.count c.loop-i.i c.loop-i.rest.now c.in_ok-item.item c.in_ok-item.tail.now (omega arith) e.answer in
-    (omega arith, c.loop-i.invariant.1 ∙ m)
+pub loop-preserved : goal.loop-preserved
+loop-preserved g c =
+    let input = c.args.input.now in
+    let read = g.T.Item.format.reads c.args.shape input.whole in
+    let inv = c.loop.invariant in
+    let e = rw inv.0 at c.in_ok-read.ensures.answer_is in
+    let m = passed_more read c.args.count c.loop.counter c.loop.input.bytes.now c.in_ok-read.field-0 c.read.new.input.bytes.now (omega arith) e in
+    (c.in_ok-read.ensures.same_input ∙ inv.0, inv.1 ∙ m)
 
 pub returns : goal.returns
 returns g c =
-    let read = g.T.Item.format.reads c.args.shape c.args.whole in
-    record { answer = sym (c.loop-i.invariant.1 ∙ rest-done read c.args.count c.loop-i.i c.loop-i.rest.now (omega arith)); rest = c.loop-i.invariant.0 }
+    let read = g.T.Item.format.reads c.args.shape c.args.input.now.whole in
+    record { answer_is = sym (c.loop.invariant.1 ∙ passed-all read c.args.count c.loop.counter c.loop.input.bytes.now (omega arith)); same_input = c.loop.invariant.0 }

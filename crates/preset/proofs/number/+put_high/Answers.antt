@@ -1,7 +1,7 @@
 use Rattle.std.proofs.Common.{◌≡◌, ◌+◌, ◌/◌, ◌%◌, [], length, ap, arith}
 use Rattle.preset.specs.Numbers.{high_bytes}
 use Rattle.preset.proofs.Spelling.{high_step, length_high_step}
-use Rattle.preset.proofs.Strips.{over_none, over_more}
+use Rattle.preset.proofs.Fronts.{over_none, over_more}
 use Rattle.preset.proofs.number.+put_high.Goals as goal
 
 pub returns-then-high-eq0 : goal.returns-then-high-eq0

@@ -1,7 +1,7 @@
 use Rattle.std.proofs.Common.{◌/◌, ◌%◌, arith}
 use Rattle.preset.specs.Numbers.{high_bytes}
 use Rattle.preset.proofs.Spelling.{length-spell}
-use Rattle.preset.proofs.Strips.{over_more}
+use Rattle.preset.proofs.Fronts.{over_more}
 use Rattle.preset.proofs.number.put_number.Goals as goal
 
 pub put_high-last-requires : goal.put_high-last-requires

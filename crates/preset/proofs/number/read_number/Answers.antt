@@ -6,20 +6,20 @@ use Rattle.preset.proofs.Reading.{number-leading, number-long, tail_shorter, tur
 use Rattle.preset.proofs.number.read_number.Goals as goal
 
 pub returns-in_default : goal.returns-in_default
-returns-in_default c = record { answer = sym (ap (number c.args.place) (nil_from_length c.args.input.now (omega (arith, ltb-true)))); rest = tt; refusals = refusals }
+returns-in_default c = record { answer = rw c.at.ensures (sym (ap (number c.args.place) (nil_from_length c.args.input.now (omega (arith, ltb-true))))); rest = tt; refusals = refusals }
 
 pub returns-then-first : goal.returns-then-first
-returns-then-first c = record { answer = sym (number-leading c.args.place c.args.input.now c.if-first.true); rest = tt; refusals = refusals }
+returns-then-first c = record { answer = rw c.at-then-first.ensures (sym (number-leading c.args.place c.args.input.now c.if-first.true)); rest = tt; refusals = refusals }
 
 pub returns-in_default-rest : goal.returns-in_default-rest
 returns-in_default-rest c =
     let inv = c.loop-i.invariant in
-    record { answer = turn-cut c.args.input.now c.loop-i.rest.now c.loop-i.i c.loop-i.high inv.0 inv.2 inv.3 c.args.place c.if-first.false c.loop-i-test.true (omega (arith, ltb-true)); rest = tt; refusals = refusals }
+    record { answer = rw c.at-in_default-rest.ensures (turn-cut c.args.input.now c.loop-i.rest.now c.loop-i.i c.loop-i.high inv.0 inv.2 inv.3 c.args.place c.if-first.false c.loop-i-test.true (omega (arith, ltb-true))); rest = tt; refusals = refusals }
 
 pub returns-then-value-gt-MOST_NUMBER : goal.returns-then-value-gt-MOST_NUMBER
 returns-then-value-gt-MOST_NUMBER c =
     let inv = c.loop-i.invariant in
-    record { answer = turn-large c.args.input.now c.loop-i.rest.now c.loop-i.i c.loop-i.high inv.0 inv.2 inv.3 (omega (arith, ltb-false)) c.args.place (ltb-true (get_or c.loop-i.rest.now 0 0) 128 (sym c.if-ends_number.ensures)) c.if-value-gt-MOST_NUMBER.true; rest = tt; refusals = refusals }
+    record { answer = rw c.at-then-value-gt-MOST_NUMBER.ensures (turn-large c.args.input.now c.loop-i.rest.now c.loop-i.i c.loop-i.high inv.0 inv.2 inv.3 (omega (arith, ltb-false)) c.args.place (ltb-true (get_or c.loop-i.rest.now 0 0) 128 (sym c.if-ends_number.ensures)) c.if-value-gt-MOST_NUMBER.true); rest = tt; refusals = refusals }
 
 pub returns-then-ends_number : goal.returns-then-ends_number
 returns-then-ends_number c =
@@ -36,4 +36,4 @@ loop-i-preserved c =
     turn_more c.args.input.now c.loop-i.rest.now c.loop-i.i c.loop-i.high inv.0 inv.2 inv.3 (omega (arith, ltb-false)) inv.4 (ltb-false (get_or c.loop-i.rest.now 0 0) 128 (sym c.if-ends_number.ensures))
 
 pub returns : goal.returns
-returns c = record { answer = sym (number-long c.args.place c.args.input.now (omega arith)); rest = tt; refusals = refusals }
+returns c = record { answer = rw c.at-2.ensures (sym (number-long c.args.place c.args.input.now (omega arith))); rest = tt; refusals = refusals }

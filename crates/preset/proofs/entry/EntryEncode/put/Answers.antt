@@ -1,7 +1,7 @@
 use Rattle.std.proofs.Common.{◌≡◌, ℕ, ◌+◌, List, length, Option, ap, ◌∙◌, ap₂, arith, length-append}
 use Rattle.fault.specs.Answers.{over}
 use Rattle.preset.specs.Entries.{part_bytes, signed_number, signed_part, plain_number, plain_end}
-use Rattle.preset.proofs.Strips.{over-over}
+use Rattle.preset.proofs.Fronts.{over-over}
 use Rattle.preset.proofs.entry.EntryEncode.put.Goals as goal
 
 pub put_part-next-requires : goal.put_part-next-requires

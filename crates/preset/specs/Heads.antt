@@ -1,0 +1,12 @@
+-- A header that has passed, as the definitions have it. Assumes nothing.
+use Rattle.std.specs.Prelude.{Ok, Err, Result}
+use Rattle.fault.specs.declared.Fault.{Fault}
+use Rattle.preset.specs.declared.header.Head.{Head as Passed}
+use Rattle.preset.specs.Presets.{Head}
+
+abbrev pub head_of : Passed → Head
+head_of h = record { kind = h.kind; header = h.header }
+
+abbrev pub heads : Result Passed Fault → Result Head Fault
+heads (Ok h) = Ok (head_of h)
+heads (Err f) = Err f

@@ -1,0 +1,49 @@
+// A preset on the strips that hold its letters and its entries.
+ghost use Rattle.std.proofs.Props.{props};
+ghost use Rattle.preset.specs.Sound.{Sound};
+
+use crate::entry::Entry;
+use crate::header::{Head, Header};
+use crate::shape::Shape;
+use charge::ChargeKind;
+
+// The kind and the sizes, with the letters and the entries that they ask for, each of which is allowed.
+#[derive(Clone, Copy)]
+pub struct Loaded<'a> {
+    pub kind: ChargeKind,
+    pub header: Header,
+    pub letters: &'a [u8],
+    pub entries: &'a [Entry],
+    pub ghost sound: { Sound (record { head = record { kind = kind; header = header }; letters = letters.now; entries = entries.now }) } by { Prim.hlevel props },
+}
+
+impl<'a> Loaded<'a> {
+    ghost use Rattle.std.specs.Prelude.{◌≡◌};
+    ghost use Rattle.preset.specs.Heads.{head_of};
+    ghost use Rattle.preset.specs.Loads.{preset_of};
+    ghost use Rattle.preset.specs.Writes.{fronts};
+
+    // The preset of a header that has passed and of the fronts of two strips.
+    pub(crate) fn front(head: Head, letters: &'a [u8], entries: &'a [Entry]) -> Loaded<'a>
+        requires { Sound (fronts (head_of head) letters.now entries.now) }
+        ensures { preset_of result ≡ fronts (head_of head) letters.now entries.now }
+    {
+        Loaded {
+            kind: head.kind,
+            header: head.header,
+            letters: &letters[..head.letter_count()],
+            entries: &entries[..head.entry_count()],
+        }
+    }
+
+    // What the letters and the entries are held to.
+    pub(crate) fn shape(&self) -> Shape
+        ensures { result.kind ≡ self.now.kind }
+    {
+        let head = Head {
+            kind: self.kind,
+            header: self.header,
+        };
+        head.shape()
+    }
+}

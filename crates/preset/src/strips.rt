@@ -1,0 +1,66 @@
+// Strips for the largest preset, and the preset that is read into them.
+use crate::entry::Entry;
+use crate::header::Head;
+use crate::loaded::Loaded;
+use crate::reader::{STRIP, read_parts};
+use fault::Fault;
+
+// A strip for the letters and one for the entries.
+#[derive(Drop)]
+pub struct Strips {
+    letters: [u8; STRIP],
+    entries: [Entry; STRIP],
+}
+
+impl Strips {
+    ghost use Rattle.std.specs.Prelude.{◌≡◌, Ok, pos, replicate};
+    ghost use Rattle.std.specs.Borrow.{sem};
+    ghost use Rattle.fault.specs.Answers.{plainly, and_then};
+    ghost use Rattle.fault.specs.Limits.{most_words};
+    ghost use Rattle.preset.specs.Heads.{head_of, heads};
+    ghost use Rattle.preset.specs.Loads.{loaded, preset_of};
+    ghost use Rattle.preset.specs.Presets.{whole_preset};
+    ghost use Rattle.preset.specs.Sound.{Sound};
+    ghost use Rattle.preset.specs.Strips.{Rest, ReadInto};
+    ghost use Rattle.preset.specs.Writes.{fronts};
+
+    // Strips of zeros.
+    pub fn new() -> Strips
+        ensures letters { result.letters ≡ replicate most_words 0 }
+        ensures entries { result.entries ≡ replicate most_words (record { signed = pos 0; plain = 0 }) }
+    {
+        Strips {
+            letters: [0; STRIP],
+            entries: [Entry {
+                signed: 0,
+                plain: 0,
+            }; STRIP],
+        }
+    }
+
+    // Reads the preset that the whole input is, and answers its head. A refusal leaves the strips as they were.
+    fn fill(&mut self, input: &[u8]) -> Result<Head, Fault>
+        ensures head { plainly (heads result) ≡ and_then (whole_preset input.now) (λ p. Ok p.head) }
+        ensures strips { ReadInto self.old (whole_preset input.now) self.new }
+    {
+        let head = read_parts(input, &mut self.letters, &mut self.entries)?;
+        Ok(head)
+    }
+
+    // The preset that was read, by its head.
+    fn front(&self, head: Head) -> Loaded<'_>
+        requires { Sound (fronts (head_of head) self.now.letters self.now.entries) }
+        ensures { preset_of result ≡ fronts (head_of head) self.now.letters self.now.entries }
+    {
+        Loaded::front(head, &self.letters, &self.entries)
+    }
+
+    // The preset that the whole input is, on the strips.
+    pub fn read(&mut self, input: &[u8]) -> Result<Loaded<'_>, Fault>
+        ensures answer { loaded result ≡ whole_preset input.now }
+        ensures* strips { sem 𝓛 (Rest self.entry (ReadInto self.old (whole_preset input.now))) }
+    {
+        let head = self.fill(input)?;
+        Ok(self.front(head))
+    }
+}
