@@ -5,5 +5,4 @@ pub mod Passing
 pub mod ReadBack
 pub mod Reading
 pub mod Rows
-pub mod Showing
 pub mod ShownBack

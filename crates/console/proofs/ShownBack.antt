@@ -11,7 +11,7 @@ use Rattle.preset.specs.Laws.{Bytes}
 use Rattle.preset.specs.Presets.{Preset, whole_preset}
 use Rattle.preset.specs.Writes.{preset_bytes}
 use Rattle.preset.proofs.Outcomes.{ok-is, and_ok}
-use Rattle.preset.proofs.PresetLaws.{whole-good, whole-so, preset_sizes}
+use Rattle.preset.proofs.PresetLaws.{whole-sound, whole-so, preset_sizes}
 use Rattle.console.specs.Encodes.{encoded, bytes_of, counts_tested, most_preset, ShownEncodesBack}
 use Rattle.console.specs.Grammar.{Content, parsed}
 use Rattle.console.specs.Numbers.{number_end}
@@ -45,15 +45,15 @@ letters_small q h (x ∷ xs) u = let k = ltb-true x q u.0 in (omega arith, lette
 module _ (bs : List ℕ) (p : Preset) (u : Bytes bs) (small : length bs ≤ most_preset) (whole : whole_preset bs ≡ Ok p) where
   holdable : Holdable p.head.kind p.head.header p.letters p.entries (length bs)
   holdable =
-      let g = whole-good bs p u whole in
+      let g = whole-sound bs p u whole in
       let s = g.sized in
       record {
         same_kind = sym g.named;
-        q = omega (arith, s.q₂);
-        n = omega (arith, s.n₂);
-        l = omega (arith, s.l₁, s.n₂);
-        k = omega (arith, s.k₂);
-        letter = letters_small p.head.header.q s.q₂ p.letters g.letters_fit;
+        q = omega (arith, s.letters_most);
+        n = omega (arith, s.window);
+        l = omega (arith, s.reach, s.window);
+        k = omega (arith, s.width);
+        letter = letters_small p.head.header.q (omega (arith, s.letters_most)) p.letters g.letters_fit;
         entry = entries_of-kind p.head.kind p.entries g.entries_fit;
         count = omega arith;
       }

@@ -4,6 +4,7 @@
 mod draft;
 mod encode;
 mod error;
+mod failure;
 mod item;
 mod kind;
 mod lines;
@@ -19,6 +20,7 @@ mod writer;
 pub use draft::Draft;
 pub use encode::{EncodeError, encode_page};
 pub use error::{Expected, TextError};
+pub use failure::ShowError;
 pub use item::EntryWord;
 pub use kind::{kind_name, kind_named};
 pub use lines::{Lines, line_of_refusal};
