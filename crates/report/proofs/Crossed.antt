@@ -1,7 +1,10 @@
 -- The page of crossings, from what a call found and wrote. Assumes nothing.
-use Rattle.std.proofs.Common.{◌≡◌, ℕ, ◌-◌, ◌^◌, List, map, length, take, Some, None, Ok, Err, Option, Result, sym, refl, ap, ◌∙◌, arith}
+use Rattle.std.proofs.Common.{◌≡◌, ℕ, ◌+◌, ◌-◌, ◌^◌, ◌≤◌, List, map, length, take, IfSome, IsErrAnd, Some, None, Ok, Err, Option, Result, sym, refl, ap, ◌∙◌, subst, le_trans, arith}
+use native.Mathlib.Nat.{pow-le-pow_right}
 use Rattle.std.specs.Option.{option_map}
+use Rattle.fault.specs.declared.Fault.{Fault}
 use Rattle.fault.specs.Answers.{and_then}
+use Rattle.fault.specs.Limits.{most_words}
 use Rattle.fault.specs.Refusals.{Refusal}
 use Rattle.charge.specs.Groups.{Kind, Equality}
 use Rattle.automaton.specs.Meanings.{Weights, next, total}
@@ -10,17 +13,20 @@ use Rattle.automaton.specs.Words.{word}
 use Rattle.criterion.specs.Answers.{unless_refused}
 use Rattle.criterion.specs.Search.{padding, crossings, J}
 use Rattle.preset.specs.Sending.{Sending}
+use Rattle.preset.specs.Sizes.{Sized}
 use Rattle.preset.specs.declared.header.Header.{Header}
+use Rattle.console.specs.Shows.{unless_memory}
+use Rattle.console.specs.declared.failure.ShowError.{ShowError}
+use Rattle.console.specs.declared.failure.ShowError.TheVariants.{Refused}
 use Rattle.bench.specs.declared.state.Break.{Break}
 use Rattle.bench.specs.Answers.{found_said}
 use Rattle.bench.specs.Labels.{rule_label_list}
 use Rattle.bench.specs.Verdicts.{broken}
 use Rattle.report.specs.declared.line.Line.{Line}
-use Rattle.report.specs.Texts.{Shape}
 use Rattle.report.specs.Finds.{JudgeFinds, preset_rule, preset_density, preset_found, answer_good}
 use Rattle.report.specs.Lines.{LineIs}
 use Rattle.report.specs.Reports.{ToldCrossings, crossing_shape}
-use Rattle.report.specs.Texts.{row_text, rows_text}
+use Rattle.report.specs.Texts.{Shape, row_text, rows_text}
 
 -- whether an answer is a refusal, as a number
 refuses : {X : Type 0} → Result X Refusal → ℕ
@@ -61,3 +67,28 @@ page-told K E S room cells h letters charges old new strip ring o finds shape sa
         good_is = is.good_is;
       };
     }
+
+-- what is told where judging is refused
+pub refusal-told : {C : Type 0} (K : Kind C) (E : Equality K.group) (S : Sending C) (room cells : ℕ) (h : Header) (letters : List ℕ) (charges old new : List C) (strip ring : List ℕ) (f : Fault)
+    → JudgeFinds K (preset_rule h letters) (preset_density K h charges) (preset_found K E room cells h letters charges) old new strip ring (Err f)
+    → ToldCrossings K E S room cells h letters charges (Err f)
+refusal-told K E S room cells h letters charges old new strip ring f finds = record {
+  answer = Err f;
+  said = finds.said;
+  right = finds.right;
+  crossed = take (length (unless_refused (preset_found K E room cells h letters charges) (crossings K padding (rule_label_list K.group (preset_rule h letters) (preset_density K h charges))))) new;
+  meant = finds.crossed.0;
+  page = refl;
+}
+
+-- an error that is a refusal
+pub refused_is : {X : Type 0} (P : Result X Fault → Type 0) (r : Result X ShowError) (f : Fault) → IsErrAnd r (λ e. e ≡ Refused f) → P (Err f) → IfSome (unless_memory r) P
+refused_is P (Ok x) f is h = absurd is
+refused_is {X} P (Err e) f is h = subst (λ (x : ShowError). IfSome (unless_memory {X = X} (Err x)) P) (sym is) h
+
+-- there are few words of one letter fewer than a label's
+pub crossings_few : (h : Header) → Sized h → h.q ^ (h.n + h.k - 1 - 1) ≤ most_words
+crossings_few h s =
+    let some : 1 ≤ h.q = omega (arith, s.letters_some) in
+    let fewer : h.n + h.k - 1 - 1 ≤ h.n + h.k - 1 = omega arith in
+    le_trans (pow-le-pow_right some fewer) s.few

@@ -1,6 +1,5 @@
 pub mod Crossed
 pub mod Digits
 pub mod Lined
-pub mod Loading
 pub mod Tables
 pub mod Verdicts

@@ -3,12 +3,11 @@ ghost use Rattle.std.specs.Prelude.{◌≡◌, length};
 ghost use Rattle.bench.specs.Verdicts.{judge_found};
 ghost use Rattle.report.specs.Finds.{break_of, JudgeFinds, preset_rule, preset_density, preset_found};
 
-use crate::loaded::Loaded;
 use automaton::{Density, Rule, TableDensity, TableRule};
 use bench::{Break, Draft, Verdict};
 use charge::Charge;
 use fault::Fault;
-use preset::Sent;
+use preset::Loaded;
 
 // The break that a verdict tells of, if it tells of one.
 fn break_of<C: Charge, R: Drop, D: Drop>(verdict: Verdict<C, R, D>) -> Option<Break<C>>

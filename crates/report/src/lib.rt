@@ -1,14 +1,13 @@
 // Verdicts on presets as text. Assumes nothing.
 #![tactic(auto)]
 
+mod charges;
 mod compare;
 mod comparing;
 mod crossing;
 mod judge;
 mod judging;
 mod line;
-mod load;
-mod loaded;
 mod rows;
 mod texts;
 mod verdict;

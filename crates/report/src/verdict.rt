@@ -1,19 +1,17 @@
 // A preset that was read, judged and told.
-ghost use Rattle.std.specs.Prelude.{◌≡◌, ◌≤◌, length, IfOk};
-ghost use Rattle.report.specs.Loads.{Sound};
+ghost use Rattle.std.specs.Prelude.{◌≡◌, IfOk};
 ghost use Rattle.report.specs.Finds.{sent_break, sent_found};
 ghost use Rattle.report.specs.Texts.{shape_of};
-ghost use Rattle.report.specs.Reports.{ToldJudgement, JudgeLine, JudgedAs, judge_shape};
+ghost use Rattle.report.specs.Reports.{JudgeLine, JudgedAs, judge_shape};
 
+use crate::charges::charges_of;
 use crate::judge::judge_tables;
 use crate::line::{Finding, Line, Question, Shape};
-use crate::load::{charges_of, zeros_of};
-use crate::loaded::Loaded;
 use crate::texts::Asked;
 use bench::Break;
 use charge::{Both, Channels, ChargeKind, Pitch, Voices};
 use fault::Fault;
-use preset::{Header, Sent};
+use preset::{Loaded, Sent};
 use std::alloc::{AllocError, Global};
 
 // How many crossings and cells the strips have room for: enough for every preset.
@@ -39,67 +37,54 @@ pub(crate) fn sent_found<C: Sent>(
 ) -> Result<Option<Finding>, Fault>
     ensures { result ≡ sent_found C.Sent.sending found }
 {
-    match found {
-        Err(fault) => Err(fault),
-        Ok(None) => Ok(None),
-        Ok(Some(found)) => Ok(Some(sent_break(found))),
-    }
+    found.map(|found| found.map(sent_break))
 }
 
 // The kind and the alphabet of a preset, and the words that its label is on.
-pub(crate) fn judge_shape(kind: ChargeKind, header: Header) -> Shape
-    requires { (1 ≤ header.q) × ((header.n ≤ 12) × ((1 ≤ header.k) × (header.k ≤ 12))) }
-    ensures { shape_of result ≡ judge_shape kind header }
+fn judge_shape(preset: Loaded<'_>) -> Shape
+    ensures { shape_of result ≡ judge_shape preset.entry.kind preset.entry.header }
 {
+    let header = preset.header;
     Shape {
-        kind,
+        kind: preset.kind,
         q: header.q,
         m: header.n + header.k - 1,
     }
 }
 
-// The line of a preset with its charges, judged on two strips.
-fn judge_on<C: Sent>(
-    heap: Global,
+// The line of a preset of one kind.
+fn judge_charges<C: Sent>(
+    alloc: Global,
     name: &str,
     preset: Loaded<'_>,
-    charges: &[C],
-    crossings: &mut [C],
-    ring: &mut [u8],
 ) -> Result<Line, AllocError>
-    requires { Sound C.Sent.sending.named preset.header preset.entries.now }
-    ensures { IfOk result (ToldJudgement C.Charge.kind C.Charge.equality C.Sent.sending (length crossings.old) (length ring.old) name.now preset.entry.header preset.entry.letters.now charges.now) }
+    requires { preset.kind ≡ C.Sent.sending.named }
+    ensures { IfOk result (JudgeLine C.Charge.kind C.Charge.equality C.Sent.sending name.now preset.entry.header preset.entry.letters.now preset.entry.entries.now) }
 {
-    let shape = judge_shape(C::kind(), preset.header);
-    let found = judge_tables(preset, charges, crossings, ring);
+    let charges = charges_of::<C>(alloc, preset.entries)?;
+    let mut crossings = vec![in alloc; C::zero(); CROSSING_ROOM]?;
+    let mut ring = [0u8; RING_ROOM];
+    let found = judge_tables(preset, &charges, &mut crossings, &mut ring);
     let asked = Asked {
         question: Question::Judge,
         subject: name,
-        shape,
+        shape: judge_shape(preset),
     };
-    asked.line(heap, ring, sent_found(found))
-}
-
-// The line of a preset of one kind.
-fn judge_charges<C: Sent>(heap: Global, name: &str, preset: Loaded<'_>) -> Result<Line, AllocError>
-    requires { Sound C.Sent.sending.named preset.header preset.entries.now }
-    ensures { IfOk result (JudgeLine C.Charge.kind C.Charge.equality C.Sent.sending name.now preset.entry.header preset.entry.letters.now preset.entry.entries.now) }
-{
-    let charges = charges_of::<C>(heap, preset.entries)?;
-    let mut crossings = zeros_of::<C>(heap, CROSSING_ROOM)?;
-    let mut ring = [0u8; RING_ROOM];
-    judge_on(heap, name, preset, &charges, &mut crossings, &mut ring)
+    asked.line(alloc, &ring, sent_found(found))
 }
 
 // The line of a preset of any kind.
-pub(crate) fn judge_kind(heap: Global, name: &str, preset: Loaded<'_>) -> Result<Line, AllocError>
-    requires { Sound preset.kind preset.header preset.entries.now }
+pub(crate) fn judge_kind(
+    alloc: Global,
+    name: &str,
+    preset: Loaded<'_>,
+) -> Result<Line, AllocError>
     ensures { IfOk result (JudgedAs preset.entry.kind name.now preset.entry.header preset.entry.letters.now preset.entry.entries.now) }
 {
     match preset.kind {
-        ChargeKind::Voices => judge_charges::<Voices>(heap, name, preset),
-        ChargeKind::Pitch => judge_charges::<Pitch>(heap, name, preset),
-        ChargeKind::Channels => judge_charges::<Channels>(heap, name, preset),
-        ChargeKind::Both => judge_charges::<Both>(heap, name, preset),
+        ChargeKind::Voices => judge_charges::<Voices>(alloc, name, preset),
+        ChargeKind::Pitch => judge_charges::<Pitch>(alloc, name, preset),
+        ChargeKind::Channels => judge_charges::<Channels>(alloc, name, preset),
+        ChargeKind::Both => judge_charges::<Both>(alloc, name, preset),
     }
 }

@@ -1,9 +1,39 @@
-use Rattle.std.proofs.Common.{map, length, refl, ap, ◌∙◌}
-use Rattle.std.proofs.lemmas.Result.{IfOk-weaker}
+use Rattle.std.proofs.Common.{◌≡◌, ◌^◌, ◌≤◌, map, length, refl, sym, ap, ◌∙◌, subst, arith}
+use Rattle.fault.specs.Limits.{most_words}
+use Rattle.charge.specs.declared.kind.ChargeKind.{ChargeKind}
+use Rattle.report.specs.Texts.{Shape, shape_of}
+use Rattle.report.specs.Reports.{crossing_shape}
 use Rattle.report.proofs.Lined.{crossings-page}
+use Rattle.report.proofs.Crossed.{page-told, refusal-told, refused_is, crossings_few}
 use Rattle.report.proofs.crossing.cross_charges.Goals as goal
+
+pub returns-in_err-found : goal.returns-in_err-found
+returns-in_err-found g c =
+    let K = g.C.Charge.kind in
+    let S = g.C.Sent.sending in
+    let p = c.args.preset in
+    let sent = ap (map S.entry) c.deref.ensures.value ∙ c.in_ok-charges.ensures in
+    let room = c.as_mut_slice-crossings.ensures.len ∙ c.in_ok-strip.ensures.len in
+    refused_is _ c.from_residual-in_err-found.result c.in_err-found.field-0.0 c.from_residual-in_err-found.ensures.1
+    (crossings-page K g.C.Charge.equality S p.header p.letters.now p.entries.now c.deref.result.now (length c.as_mut_slice-crossings.result.now) _ room refl sent _
+    (refusal-told K g.C.Charge.equality S _ _ p.header p.letters.now c.deref.result.now _ c.judge_tables.new.crossings _ _ c.in_err-found.field-0.0 c.in_err-found.ensures))
+
+pub page_line-requires : goal.page_line-requires
+page_line-requires g c =
+    let p = c.args.preset in
+    let shape = c.crossing_shape.ensures in
+    let z = p.sound.sized in
+    let m = ap (λ (s : Shape). s.m) shape in
+    let few : c.crossing_shape.result.q ^ c.crossing_shape.result.m ≤ most_words = subst (λ (s : Shape). s.q ^ s.m ≤ most_words) (sym shape) (crossings_few p.header z) in
+    (omega (arith, m, z.window, z.width), few, omega (arith, few, c.as_mut_slice-crossings.ensures.len, c.judge_tables.auto.crossings, c.in_ok-strip.ensures.len))
 
 pub returns : goal.returns
 returns g c =
+    let K = g.C.Charge.kind in
     let S = g.C.Sent.sending in
-    IfOk-weaker c.cross_on.result _ _ (crossings-page g.C.Charge.kind g.C.Charge.equality S c.args.preset.header c.args.preset.letters.now c.args.preset.entries.now c.deref.result.now (length c.deref_mut.result.now) _ (ap length c.deref_mut.ensures.value ∙ c.in_ok-crossings.ensures) refl (ap (map S.entry) c.deref.ensures.value ∙ c.in_ok-charges.ensures)) c.cross_on.ensures
+    let p = c.args.preset in
+    let sent = ap (map S.entry) c.deref.ensures.value ∙ c.in_ok-charges.ensures in
+    let room = c.as_mut_slice-crossings.ensures.len ∙ c.in_ok-strip.ensures.len in
+    let same = c.crossing_shape.ensures ∙ ap (λ (k : ChargeKind). crossing_shape k p.header) c.requires in
+    crossings-page K g.C.Charge.equality S p.header p.letters.now p.entries.now c.deref.result.now (length c.as_mut_slice-crossings.result.now) _ room refl sent _
+    (page-told K g.C.Charge.equality S _ _ p.header p.letters.now c.deref.result.now _ c.judge_tables.new.crossings _ _ c.in_ok-found.found c.in_ok-found.ensures (shape_of c.crossing_shape.result) same c.in_ok-page_line.field-0 c.in_ok-page_line.ensures)
