@@ -5,7 +5,7 @@
 ghost use Rattle.std.specs.Prelude.{◌≡◌, OnOk, OnErr};
 ghost use Rattle.std.specs.Process.{exit_status};
 
-use console::{encode_page, show_preset};
+use console::{ShowError, encode_page, show_preset};
 use fault::Fault;
 use report::{Line, compare_line, crossings_page, judge_line};
 use std::io::Write;
@@ -57,15 +57,22 @@ fn refuse(rt: &HostRuntime, fault: Fault) -> Result<(), Failed> {
     Err(Failed)
 }
 
+// Says why a preset is not told of.
+fn complain(rt: &HostRuntime, error: ShowError) -> Result<(), Failed> {
+    match error {
+        ShowError::Memory => no_memory(rt),
+        ShowError::Refused(fault) => refuse(rt, fault),
+    }
+}
+
 fn show(rt: &HostRuntime, path: &str) -> Result<(), Failed> {
     let bytes = read_file(rt, path)?;
     match show_preset(rt.alloc(), &bytes) {
-        Ok(Ok(page)) => {
+        Ok(page) => {
             print!(rt; "{page}")?;
             Ok(())
         }
-        Ok(Err(fault)) => refuse(rt, fault),
-        Err(_) => no_memory(rt),
+        Err(error) => complain(rt, error),
     }
 }
 
@@ -120,13 +127,12 @@ fn judge(rt: &HostRuntime, paths: &[String]) -> Result<(), Failed> {
 fn crossings(rt: &HostRuntime, path: &str) -> Result<(), Failed> {
     let bytes = read_file(rt, path)?;
     match crossings_page(rt.alloc(), &bytes) {
-        Ok(Ok(page)) => {
+        Ok(page) => {
             let text = page.text;
             print!(rt; "{text}")?;
             if page.good { Ok(()) } else { Err(Failed) }
         }
-        Ok(Err(fault)) => refuse(rt, fault),
-        Err(_) => no_memory(rt),
+        Err(error) => complain(rt, error),
     }
 }
 
@@ -146,24 +152,19 @@ fn usage(rt: &HostRuntime) -> Result<(), Failed> {
 
 // What the words after the program's name ask for.
 fn obey(rt: &HostRuntime, words: &[String]) -> Result<(), Failed> {
-    match words {
-        [verb] if verb.as_str() == "help" => {
+    let Some((verb, rest)) = words.split_first() else {
+        return usage(rt);
+    };
+    match (verb.as_str(), rest) {
+        ("help", []) => {
             print!(rt; "{USAGE}")?;
             Ok(())
         }
-        [verb, preset] if verb.as_str() == "show" => show(rt, preset.as_str()),
-        [verb, text, preset] if verb.as_str() == "encode" => encode(
-            rt,
-            text.as_str(),
-            preset.as_str(),
-        ),
-        [verb, preset] if verb.as_str() == "crossings" => crossings(rt, preset.as_str()),
-        [verb, first, second] if verb.as_str() == "compare" => compare(
-            rt,
-            first.as_str(),
-            second.as_str(),
-        ),
-        [verb, first, ..] if verb.as_str() == "judge" => judge(rt, &words[1..]),
+        ("show", [preset]) => show(rt, preset.as_str()),
+        ("encode", [text, preset]) => encode(rt, text.as_str(), preset.as_str()),
+        ("crossings", [preset]) => crossings(rt, preset.as_str()),
+        ("compare", [first, second]) => compare(rt, first.as_str(), second.as_str()),
+        ("judge", [_, ..]) => judge(rt, rest),
         _ => usage(rt),
     }
 }
