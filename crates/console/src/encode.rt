@@ -58,13 +58,13 @@ fn check_counts(draft: &Draft) -> Result<(), EncodeError>
 }
 
 // The bytes of what a page holds, written to a strip that every preset fits.
-fn encode_draft(heap: Global, draft: &Draft) -> Result<Vec<u8>, EncodeError>
+fn encode_draft(alloc: Global, draft: &Draft) -> Result<Vec<u8>, EncodeError>
     ensures { Answered (answered vec_items result) (bytes_of (content draft.now)) }
 {
     check_counts(draft)?;
     let mut out = [0; MOST_PRESET];
     match write_preset(draft.header, &draft.letters, &draft.entries, &mut out) {
-        Ok(len) => Ok(Vec::from_slice(heap, &out[..len])?),
+        Ok(len) => Ok(Vec::from_slice(alloc, &out[..len])?),
         Err(fault) => Err(EncodeError::Refused {
             lines: draft.lines,
             fault,
@@ -73,11 +73,11 @@ fn encode_draft(heap: Global, draft: &Draft) -> Result<Vec<u8>, EncodeError>
 }
 
 // The bytes of the preset that a text writes.
-pub fn encode_page(heap: Global, text: &[u8]) -> Result<Vec<u8>, EncodeError>
+pub fn encode_page(alloc: Global, text: &[u8]) -> Result<Vec<u8>, EncodeError>
     ensures { Answered (answered vec_items result) (encoded text.now) }
 {
-    let draft = parse(heap, text)?;
-    encode_draft(heap, &draft)
+    let draft = parse(alloc, text)?;
+    encode_draft(alloc, &draft)
 }
 
 impl Error for EncodeError {}

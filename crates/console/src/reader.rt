@@ -33,14 +33,14 @@ fn read_item<T: Item>(kind: ChargeKind, line: usize, word: &[u8]) -> Result<T, T
 
 // The items that the words of a line write.
 fn read_items<T: Item>(
-    heap: Global,
+    alloc: Global,
     kind: ChargeKind,
     line: usize,
     words: Words<'_>,
 ) -> Result<Vec<T>, TextError>
     ensures { Told (read vec_items result) (each (T.Item.form.reads kind) T.Item.form.expected line (words_left words.entry)) }
 {
-    let mut items = Vec::new(heap);
+    let mut items = Vec::new(alloc);
     for word in words {
         items.push(read_item::<T>(kind, line, word)?)?;
     }
@@ -48,7 +48,7 @@ fn read_items<T: Item>(
 }
 
 // Reads a page. The numbers of the header and the counts of letters and entries are not checked.
-pub fn parse(heap: Global, text: &[u8]) -> Result<Draft, TextError>
+pub fn parse(alloc: Global, text: &[u8]) -> Result<Draft, TextError>
     ensures { Told (read content result) (parsed text.now) }
 {
     let kind = read_kind_row(Place { passed: 0, text })?;
@@ -57,9 +57,9 @@ pub fn parse(heap: Global, text: &[u8]) -> Result<Draft, TextError>
     let l = read_number_row(Part::Reach, n.after)?;
     let k = read_number_row(Part::Width, l.after)?;
     let rule = read_row(Part::Rule, k.after)?;
-    let letters = read_items::<u8>(heap, kind.value, rule.line, rule.value)?;
+    let letters = read_items::<u8>(alloc, kind.value, rule.line, rule.value)?;
     let density = read_row(Part::Density, rule.after)?;
-    let entries = read_items::<Entry>(heap, kind.value, density.line, density.value)?;
+    let entries = read_items::<Entry>(alloc, kind.value, density.line, density.value)?;
     read_end(density.after)?;
     Ok(Draft {
         kind: kind.value,

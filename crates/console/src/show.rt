@@ -11,14 +11,14 @@ use std::alloc::Global;
 
 // The page of the preset that the bytes are, or its refusal.
 #[tactic(auto, using(crate::proofs::ShownBack::shown_encodes_back))]
-pub fn show_preset(heap: Global, input: &[u8]) -> Result<String, ShowError>
+pub fn show_preset(alloc: Global, input: &[u8]) -> Result<String, ShowError>
     ensures page { IfSome (unless_memory result) (λ s. told string_bytes s ≡ shown input.now) }
     ensures encodes_back { ShownEncodesBack }
 {
     let mut strips = Strips::new();
     let preset = strips.read(input)?;
     let text = page(
-        heap,
+        alloc,
         preset.kind,
         preset.header,
         preset.letters,

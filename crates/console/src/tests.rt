@@ -92,21 +92,21 @@ fn entries_of_kind_both_are_written(rt: HostRuntime) -> Result<(), Fail> {
 
 #[test]
 fn wrong_lines_are_named(rt: HostRuntime) -> Result<(), Fail> {
-    let heap = rt.alloc();
+    let alloc = rt.alloc();
     let error = TextError::Wrong {
         line: 3,
         expected: Expected::Number,
     };
     assert_eq!(rt;
-        parse(heap, b"kind voices\nletters 2\nwindow x\n"),
+        parse(alloc, b"kind voices\nletters 2\nwindow x\n"),
         Err(error)
     );
     assert_eq!(rt;
-        error.to_string(heap)?.as_str(),
+        error.to_string(alloc)?.as_str(),
         "Line 3: expected a number."
     );
     assert_eq!(rt;
-        parse(heap, b"kind pitch\n"),
+        parse(alloc, b"kind pitch\n"),
         Err(TextError::Ended { due: Part::Letters })
     );
     Ok(())

@@ -10,10 +10,10 @@ use preset::{Entry, Header};
 use std::alloc::{AllocError, Global};
 
 // The items of a row, a space before each.
-fn row_text<T: Item>(heap: Global, kind: ChargeKind, items: &[T]) -> Result<String, AllocError>
+fn row_text<T: Item>(alloc: Global, kind: ChargeKind, items: &[T]) -> Result<String, AllocError>
     ensures { IfOk result (λ s. string_bytes s ≡ spaced (T.Item.form.shows kind) items.now) }
 {
-    let mut row = String::new(heap);
+    let mut row = String::new(alloc);
     for item in items {
         item.push(kind, &mut row)?;
     }
@@ -21,7 +21,7 @@ fn row_text<T: Item>(heap: Global, kind: ChargeKind, items: &[T]) -> Result<Stri
 }
 
 // The lines of the kind and the sizes.
-fn head_text(heap: Global, kind: ChargeKind, header: Header) -> Result<String, AllocError>
+fn head_text(alloc: Global, kind: ChargeKind, header: Header) -> Result<String, AllocError>
     ensures { IfOk result (λ s. string_bytes s ≡ head_text kind header) }
 {
     let name = kind_name(kind);
@@ -32,19 +32,19 @@ fn head_text(heap: Global, kind: ChargeKind, header: Header) -> Result<String, A
         l,
         k,
     } = header;
-    format!(in heap; "kind {name}\nletters {q}\nwindow {n}\nreach {l}\nwidth {k}\n")
+    format!(in alloc; "kind {name}\nletters {q}\nwindow {n}\nreach {l}\nwidth {k}\n")
 }
 
 // The lines of the rule and the density, by their items, and of the bytes.
-fn rows_text(heap: Global, rule: &str, density: &str, bytes: usize) -> Result<String, AllocError>
+fn rows_text(alloc: Global, rule: &str, density: &str, bytes: usize) -> Result<String, AllocError>
     ensures { IfOk result (λ s. string_bytes s ≡ rows_text rule.now density.now bytes) }
 {
-    format!(in heap; "rule{rule}\ndensity{density}\nbytes {bytes}\n")
+    format!(in alloc; "rule{rule}\ndensity{density}\nbytes {bytes}\n")
 }
 
 // The page of a preset: one line for each part. What is written so is read as the same preset.
 pub fn page(
-    heap: Global,
+    alloc: Global,
     kind: ChargeKind,
     header: Header,
     letters: &[u8],
@@ -54,10 +54,10 @@ pub fn page(
     ensures text { IfOk result (λ s. string_bytes s ≡ page_text kind header letters.now entries.now bytes) }
     ensures back { IfOk result (λ s. Holdable kind header letters.now entries.now bytes → ReadsAs kind header letters.now entries.now (string_bytes s)) }
 {
-    let rule = row_text(heap, kind, letters)?;
-    let density = row_text(heap, kind, entries)?;
-    let rows = rows_text(heap, rule.as_str(), density.as_str(), bytes)?;
-    let mut page = head_text(heap, kind, header)?;
+    let rule = row_text(alloc, kind, letters)?;
+    let density = row_text(alloc, kind, entries)?;
+    let rows = rows_text(alloc, rule.as_str(), density.as_str(), bytes)?;
+    let mut page = head_text(alloc, kind, header)?;
     page.push_str(rows.as_str())?;
     Ok(page)
 }

@@ -14,7 +14,7 @@ use std::io::Write;
 
 // Judges a rule under a density.
 fn judge_parts<C: Printed, R: Rule + Drop, D: Density<C> + Drop, W: Write>(
-    heap: Global,
+    alloc: Global,
     out: &mut W,
     rule: R,
     density: D,
@@ -22,7 +22,7 @@ fn judge_parts<C: Printed, R: Rule + Drop, D: Density<C> + Drop, W: Write>(
 ) -> io::Result<()> {
     let q = rule.q();
     let m = rule.n().saturating_add(density.k()).saturating_sub(1);
-    let mut strips = new_strips::<C>(heap, rooms, q, m)?;
+    let mut strips = new_strips::<C>(alloc, rooms, q, m)?;
     match Draft::new::<C>(rule, density) {
         Err(refused) => write_fault(out, "refused", refused.fault),
         Ok(draft) => match draft.judge(&mut strips.crossings, &mut strips.ring) {
@@ -34,7 +34,7 @@ fn judge_parts<C: Printed, R: Rule + Drop, D: Density<C> + Drop, W: Write>(
 }
 
 fn judge_rule<C: Printed, R: Rule + Drop, W: Write>(
-    heap: Global,
+    alloc: Global,
     out: &mut W,
     rule: R,
     line: &DensityLine<C>,
@@ -43,20 +43,20 @@ fn judge_rule<C: Printed, R: Rule + Drop, W: Write>(
     if line.pattern {
         let mut density = PatternDensity::zero();
         match density.fill(line.q, line.k, &line.letters, line.charge()) {
-            Ok(()) => judge_parts(heap, out, rule, density, rooms),
+            Ok(()) => judge_parts(alloc, out, rule, density, rooms),
             Err(fault) => write_fault(out, "second", fault),
         }
     } else {
         let mut density = TableDensity::zero();
         match density.fill(line.q, line.k, &line.entries) {
-            Ok(()) => judge_parts(heap, out, rule, density, rooms),
+            Ok(()) => judge_parts(alloc, out, rule, density, rooms),
             Err(fault) => write_fault(out, "second", fault),
         }
     }
 }
 
 fn judge_case<C: Printed, W: Write>(
-    heap: Global,
+    alloc: Global,
     out: &mut W,
     rule: &RuleLine,
     density: &DensityLine<C>,
@@ -65,13 +65,13 @@ fn judge_case<C: Printed, W: Write>(
     if rule.sums {
         let mut made = SumRule::zero();
         match made.fill(rule.q, rule.n, rule.l, &rule.letters) {
-            Ok(()) => judge_rule(heap, out, made, density, rooms),
+            Ok(()) => judge_rule(alloc, out, made, density, rooms),
             Err(fault) => write_fault(out, "first", fault),
         }
     } else {
         let mut made = TableRule::zero();
         match made.fill(rule.q, rule.n, rule.l, &rule.letters) {
-            Ok(()) => judge_rule(heap, out, made, density, rooms),
+            Ok(()) => judge_rule(alloc, out, made, density, rooms),
             Err(fault) => write_fault(out, "first", fault),
         }
     }
@@ -79,13 +79,13 @@ fn judge_case<C: Printed, W: Write>(
 
 // Compares two densities.
 fn compare_parts<C: Printed, D: Density<C>, E: Density<C>, W: Write>(
-    heap: Global,
+    alloc: Global,
     out: &mut W,
     first: &D,
     second: &E,
     rooms: Rooms,
 ) -> io::Result<()> {
-    let mut strips = new_strips::<C>(heap, rooms, first.q(), first.k().max(second.k()))?;
+    let mut strips = new_strips::<C>(alloc, rooms, first.q(), first.k().max(second.k()))?;
     match compare(first, second, &mut strips.crossings, &mut strips.ring) {
         Err(fault) => write_fault(out, "refused", fault),
         Ok(Likeness::Agree) => strips.write_none(out, "agree"),
@@ -94,7 +94,7 @@ fn compare_parts<C: Printed, D: Density<C>, E: Density<C>, W: Write>(
 }
 
 fn compare_second<C: Printed, D: Density<C>, W: Write>(
-    heap: Global,
+    alloc: Global,
     out: &mut W,
     first: &D,
     line: &DensityLine<C>,
@@ -103,20 +103,20 @@ fn compare_second<C: Printed, D: Density<C>, W: Write>(
     if line.pattern {
         let mut density = PatternDensity::zero();
         match density.fill(line.q, line.k, &line.letters, line.charge()) {
-            Ok(()) => compare_parts(heap, out, first, &density, rooms),
+            Ok(()) => compare_parts(alloc, out, first, &density, rooms),
             Err(fault) => write_fault(out, "second", fault),
         }
     } else {
         let mut density = TableDensity::zero();
         match density.fill(line.q, line.k, &line.entries) {
-            Ok(()) => compare_parts(heap, out, first, &density, rooms),
+            Ok(()) => compare_parts(alloc, out, first, &density, rooms),
             Err(fault) => write_fault(out, "second", fault),
         }
     }
 }
 
 fn compare_case<C: Printed, W: Write>(
-    heap: Global,
+    alloc: Global,
     out: &mut W,
     first: &DensityLine<C>,
     second: &DensityLine<C>,
@@ -125,20 +125,20 @@ fn compare_case<C: Printed, W: Write>(
     if first.pattern {
         let mut density = PatternDensity::zero();
         match density.fill(first.q, first.k, &first.letters, first.charge()) {
-            Ok(()) => compare_second(heap, out, &density, second, rooms),
+            Ok(()) => compare_second(alloc, out, &density, second, rooms),
             Err(fault) => write_fault(out, "first", fault),
         }
     } else {
         let mut density = TableDensity::zero();
         match density.fill(first.q, first.k, &first.entries) {
-            Ok(()) => compare_second(heap, out, &density, second, rooms),
+            Ok(()) => compare_second(alloc, out, &density, second, rooms),
             Err(fault) => write_fault(out, "first", fault),
         }
     }
 }
 
 fn case_as<C: Printed, W: Write>(
-    heap: Global,
+    alloc: Global,
     out: &mut W,
     numbers: &mut Numbers,
     call: usize,
@@ -146,19 +146,19 @@ fn case_as<C: Printed, W: Write>(
 ) -> io::Result<()> {
     match call {
         0 => {
-            let rule = rule_line(heap, numbers)?;
-            let density = density_line::<C>(heap, numbers)?;
-            judge_case(heap, out, &rule, &density, rooms)
+            let rule = rule_line(alloc, numbers)?;
+            let density = density_line::<C>(alloc, numbers)?;
+            judge_case(alloc, out, &rule, &density, rooms)
         }
         1 => {
-            let first = density_line::<C>(heap, numbers)?;
-            let second = density_line::<C>(heap, numbers)?;
-            compare_case(heap, out, &first, &second, rooms)
+            let first = density_line::<C>(alloc, numbers)?;
+            let second = density_line::<C>(alloc, numbers)?;
+            compare_case(alloc, out, &first, &second, rooms)
         }
-        2 => next_case(heap, out, numbers, rooms),
+        2 => next_case(alloc, out, numbers, rooms),
         _ => {
-            let density = density_line::<C>(heap, numbers)?;
-            let ring = numbers.letters(heap)?;
+            let density = density_line::<C>(alloc, numbers)?;
+            let ring = numbers.letters(alloc)?;
             total_case(out, &density, &ring)
         }
     }
@@ -166,7 +166,7 @@ fn case_as<C: Printed, W: Write>(
 
 // Makes the call of a line and prints its result.
 pub(crate) fn write_case<W: Write>(
-    heap: Global,
+    alloc: Global,
     out: &mut W,
     numbers: &mut Numbers,
 ) -> io::Result<()> {
@@ -176,9 +176,9 @@ pub(crate) fn write_case<W: Write>(
     let ring = numbers.count();
     let rooms = Rooms { crossings, ring };
     match kind {
-        0 => case_as::<Voices, W>(heap, out, numbers, call, rooms),
-        1 => case_as::<Pitch, W>(heap, out, numbers, call, rooms),
-        2 => case_as::<Channels, W>(heap, out, numbers, call, rooms),
-        _ => case_as::<Both, W>(heap, out, numbers, call, rooms),
+        0 => case_as::<Voices, W>(alloc, out, numbers, call, rooms),
+        1 => case_as::<Pitch, W>(alloc, out, numbers, call, rooms),
+        2 => case_as::<Channels, W>(alloc, out, numbers, call, rooms),
+        _ => case_as::<Both, W>(alloc, out, numbers, call, rooms),
     }
 }

@@ -17,12 +17,12 @@ use std::io;
 use std::io::{BufRead, BufReader, BufWriter, Write};
 
 fn run(rt: &HostRuntime) -> io::Result<()> {
-    let heap = rt.alloc();
-    let mut out = BufWriter::new(heap, rt.stdout())?;
-    for line in BufReader::new(heap, rt.stdin())?.lines(heap) {
+    let alloc = rt.alloc();
+    let mut out = BufWriter::new(alloc, rt.stdout())?;
+    for line in BufReader::new(alloc, rt.stdin())?.lines(alloc) {
         let line = line?;
-        let mut numbers = Numbers::parse(heap, line.as_str())?;
-        write_case(heap, &mut out, &mut numbers)?;
+        let mut numbers = Numbers::parse(alloc, line.as_str())?;
+        write_case(alloc, &mut out, &mut numbers)?;
     }
     out.flush()
 }

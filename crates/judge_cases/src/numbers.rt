@@ -8,8 +8,8 @@ pub struct Numbers {
 }
 
 impl Numbers {
-    pub(crate) fn parse(heap: Global, line: &str) -> Result<Numbers, AllocError> {
-        let mut numbers = Vec::new(heap);
+    pub(crate) fn parse(alloc: Global, line: &str) -> Result<Numbers, AllocError> {
+        let mut numbers = Vec::new(alloc);
         for word in line.split(' ') {
             numbers.push(word.parse::<i64>().unwrap_or(0))?;
         }
@@ -31,9 +31,9 @@ impl Numbers {
     }
 
     // As many letters as the next number says.
-    pub(crate) fn letters(&mut self, heap: Global) -> Result<Vec<u8>, AllocError> {
+    pub(crate) fn letters(&mut self, alloc: Global) -> Result<Vec<u8>, AllocError> {
         let count = self.count();
-        let mut letters = Vec::new(heap);
+        let mut letters = Vec::new(alloc);
         for i in 0..count {
             letters.push(u8::try_from(self.signed()).unwrap_or(0))?;
         }

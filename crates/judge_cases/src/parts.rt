@@ -13,12 +13,12 @@ pub struct RuleLine {
     pub letters: Vec<u8>,
 }
 
-pub(crate) fn rule_line(heap: Global, numbers: &mut Numbers) -> Result<RuleLine, AllocError> {
+pub(crate) fn rule_line(alloc: Global, numbers: &mut Numbers) -> Result<RuleLine, AllocError> {
     let sums = numbers.count() == 1;
     let q = numbers.plain();
     let n = numbers.plain();
     let l = numbers.plain();
-    let letters = numbers.letters(heap)?;
+    let letters = numbers.letters(alloc)?;
     Ok(RuleLine {
         sums,
         q,
@@ -49,11 +49,11 @@ impl<C: Printed> DensityLine<C> {
 }
 
 fn entries<C: Printed>(
-    heap: Global,
+    alloc: Global,
     numbers: &mut Numbers,
     count: usize,
 ) -> Result<Vec<C>, AllocError> {
-    let mut entries = Vec::new(heap);
+    let mut entries = Vec::new(alloc);
     for i in 0..count {
         let signed = numbers.signed();
         let plain = numbers.plain();
@@ -63,15 +63,15 @@ fn entries<C: Printed>(
 }
 
 pub(crate) fn density_line<C: Printed>(
-    heap: Global,
+    alloc: Global,
     numbers: &mut Numbers,
 ) -> Result<DensityLine<C>, AllocError> {
     let pattern = numbers.count() == 1;
     let q = numbers.plain();
     let k = numbers.plain();
     if pattern {
-        let letters = numbers.letters(heap)?;
-        let entries = entries(heap, numbers, 1)?;
+        let letters = numbers.letters(alloc)?;
+        let entries = entries(alloc, numbers, 1)?;
         return Ok(DensityLine {
             pattern,
             q,
@@ -81,12 +81,12 @@ pub(crate) fn density_line<C: Printed>(
         });
     }
     let count = numbers.count();
-    let entries = entries(heap, numbers, count)?;
+    let entries = entries(alloc, numbers, count)?;
     Ok(DensityLine {
         pattern,
         q,
         k,
-        letters: Vec::new(heap),
+        letters: Vec::new(alloc),
         entries,
     })
 }

@@ -13,13 +13,13 @@ use std::io;
 use std::io::Write;
 
 fn write_next<R: Rule, W: Write>(
-    heap: Global,
+    alloc: Global,
     out: &mut W,
     rule: &R,
     ring: &[u8],
     room: usize,
 ) -> io::Result<()> {
-    let mut strip = vec![in heap; MARK; room]?;
+    let mut strip = vec![in alloc; MARK; room]?;
     match next_ring(rule, ring, &mut strip) {
         Err(fault) => write_fault(out, "refused", fault),
         Ok(()) => {
@@ -33,23 +33,23 @@ fn write_next<R: Rule, W: Write>(
 
 // The next ring under a rule.
 pub(crate) fn next_case<W: Write>(
-    heap: Global,
+    alloc: Global,
     out: &mut W,
     numbers: &mut Numbers,
     rooms: Rooms,
 ) -> io::Result<()> {
-    let line = rule_line(heap, numbers)?;
-    let ring = numbers.letters(heap)?;
+    let line = rule_line(alloc, numbers)?;
+    let ring = numbers.letters(alloc)?;
     if line.sums {
         let mut rule = SumRule::zero();
         match rule.fill(line.q, line.n, line.l, &line.letters) {
-            Ok(()) => write_next(heap, out, &rule, &ring, rooms.ring),
+            Ok(()) => write_next(alloc, out, &rule, &ring, rooms.ring),
             Err(fault) => write_fault(out, "first", fault),
         }
     } else {
         let mut rule = TableRule::zero();
         match rule.fill(line.q, line.n, line.l, &line.letters) {
-            Ok(()) => write_next(heap, out, &rule, &ring, rooms.ring),
+            Ok(()) => write_next(alloc, out, &rule, &ring, rooms.ring),
             Err(fault) => write_fault(out, "first", fault),
         }
     }

@@ -23,16 +23,16 @@ pub struct Strips<C> {
 }
 
 pub(crate) fn new_strips<C: Printed>(
-    heap: Global,
+    alloc: Global,
     rooms: Rooms,
     q: usize,
     m: usize,
 ) -> Result<Strips<C>, AllocError> {
-    let mut crossings = Vec::new(heap);
+    let mut crossings = Vec::new(alloc);
     for i in 0..rooms.crossings {
         crossings.push(C::mark())?;
     }
-    let ring = vec![in heap; MARK; rooms.ring]?;
+    let ring = vec![in alloc; MARK; rooms.ring]?;
     Ok(Strips {
         crossings,
         ring,

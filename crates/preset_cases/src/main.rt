@@ -18,13 +18,13 @@ struct Strips {
     bytes: Vec<u8>,
 }
 
-fn new_strips(heap: Global) -> Result<Strips, AllocError> {
-    let letters = vec![in heap; 0u8; STRIP]?;
-    let entries = vec![in heap; Entry {
+fn new_strips(alloc: Global) -> Result<Strips, AllocError> {
+    let letters = vec![in alloc; 0u8; STRIP]?;
+    let entries = vec![in alloc; Entry {
         signed: 0,
         plain: 0
     }; STRIP]?;
-    let bytes = vec![in heap; 0u8; 65536]?;
+    let bytes = vec![in alloc; 0u8; 65536]?;
     Ok(Strips {
         letters,
         entries,
@@ -43,10 +43,10 @@ fn digit(byte: u8) -> u8
 }
 
 // The bytes that pairs of digits give; `-` gives none.
-fn decode(heap: Global, text: &[u8]) -> Result<Vec<u8>, AllocError> {
-    let mut bytes = Vec::new(heap);
-    for i in 0..text.len() / 2 {
-        bytes.push(digit(text[2 * i]) * 16 + digit(text[2 * i + 1]))?;
+fn decode(alloc: Global, text: &[u8]) -> Result<Vec<u8>, AllocError> {
+    let mut bytes = Vec::new(alloc);
+    for pair in text.chunks_exact(2) {
+        bytes.push(digit(pair[0]) * 16 + digit(pair[1]))?;
     }
     Ok(bytes)
 }
@@ -116,12 +116,12 @@ fn write_case<W: Write>(out: &mut W, strips: &mut Strips, input: &[u8]) -> io::R
 }
 
 fn run(rt: &HostRuntime) -> io::Result<()> {
-    let heap = rt.alloc();
-    let mut strips = new_strips(heap)?;
-    let mut out = BufWriter::new(heap, rt.stdout())?;
-    for line in BufReader::new(heap, rt.stdin())?.lines(heap) {
+    let alloc = rt.alloc();
+    let mut strips = new_strips(alloc)?;
+    let mut out = BufWriter::new(alloc, rt.stdout())?;
+    for line in BufReader::new(alloc, rt.stdin())?.lines(alloc) {
         let line = line?;
-        let input = decode(heap, line.as_bytes())?;
+        let input = decode(alloc, line.as_bytes())?;
         write_case(&mut out, &mut strips, &input)?;
     }
     out.flush()

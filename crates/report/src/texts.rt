@@ -51,12 +51,7 @@ impl Asked<'_> {
     }
 
     // The line of a failing word and the ring that shows it.
-    fn finding_line(
-        self,
-        alloc: Global,
-        ring: &[u8],
-        finding: Finding,
-    ) -> Result<Line, AllocError>
+    fn finding_line(self, alloc: Global, ring: &[u8], finding: Finding) -> Result<Line, AllocError>
         ensures { IfOk result (LineIs (finding_text self.entry.question self.entry.subject.now (shape_of self.entry.shape) ring.now finding) false) }
     {
         let subject = self.subject;

@@ -53,11 +53,7 @@ fn judge_shape(preset: Loaded<'_>) -> Shape
 }
 
 // The line of a preset of one kind.
-fn judge_charges<C: Sent>(
-    alloc: Global,
-    name: &str,
-    preset: Loaded<'_>,
-) -> Result<Line, AllocError>
+fn judge_charges<C: Sent>(alloc: Global, name: &str, preset: Loaded<'_>) -> Result<Line, AllocError>
     requires { preset.kind ≡ C.Sent.sending.named }
     ensures { IfOk result (JudgeLine C.Charge.kind C.Charge.equality C.Sent.sending name.now preset.entry.header preset.entry.letters.now preset.entry.entries.now) }
 {
@@ -74,11 +70,7 @@ fn judge_charges<C: Sent>(
 }
 
 // The line of a preset of any kind.
-pub(crate) fn judge_kind(
-    alloc: Global,
-    name: &str,
-    preset: Loaded<'_>,
-) -> Result<Line, AllocError>
+pub(crate) fn judge_kind(alloc: Global, name: &str, preset: Loaded<'_>) -> Result<Line, AllocError>
     ensures { IfOk result (JudgedAs preset.entry.kind name.now preset.entry.header preset.entry.letters.now preset.entry.entries.now) }
 {
     match preset.kind {
