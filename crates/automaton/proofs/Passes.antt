@@ -1,20 +1,18 @@
 -- What a rule or a density has passed once it is made. Assumes nothing.
-use Rattle.std.proofs.Common.{◌≡◌, ℕ, zero, suc, ◌+◌, ◌^◌, ◌<◌, ◌≤◌, Bool, true, false, cond, ltb, leb, List, [], ◌∷◌, length, get_or, take, not, Some, Ok, Err, sym, refl, ap, ◌∙◌, subst, arith, length-take-le}
+use Rattle.std.proofs.Common.{◌≡◌, ℕ, zero, suc, ◌+◌, ◌<◌, ◌≤◌, Bool, true, false, cond, ltb, leb, List, [], ◌∷◌, length, get_or, take, not, Some, Ok, Err, sym, refl, ap, ◌∙◌, subst, arith, length-take-le}
 use Rattle.std.specs.List.{position, position_from}
 use Rattle.std.specs.Option.{option_map_or}
 use Rattle.std.proofs.lemmas.Iterator.Adapters.{position_from-zero}
 use Rattle.std.proofs.lemmas.Bool.{ltb-true, lt-ltb}
 use Rattle.std.proofs.lemmas.Bool.Decides.{nat_tests}
 use Rattle.fault.specs.declared.Stop.{Stop}
-use Rattle.fault.specs.declared.Stop.TheVariants.{BadLetter, BadEntry}
+use Rattle.fault.specs.declared.Stop.TheVariants.{BadLetter}
 use Rattle.fault.specs.Answers.{and_then}
 use Rattle.fault.specs.Checks.{tested, each_fits}
 use Rattle.fault.specs.Limits.{most_cells}
-use Rattle.fault.specs.Refusals.{Refusal, refused_at}
-use Rattle.charge.specs.Groups.{Kind}
+use Rattle.fault.specs.Refusals.{refused_at}
 use Rattle.automaton.specs.Words.{Letters}
-use Rattle.automaton.specs.Meanings.{DensitySizes}
-use Rattle.automaton.specs.Making.{rule_tests, counted, taken, rule_making, may_enter, table_making, pattern_making, ring_checked}
+use Rattle.automaton.specs.Making.{rule_tests, counted, taken, ring_checked}
 
 -- items that all pass
 pub each_passes : {X : Type 0} (allows : X → Bool) (stop : Stop) (none : X) (i : ℕ) (xs : List X) → each_fits allows stop i xs ≡ Ok tt →
@@ -58,27 +56,11 @@ taken-letters q need xs ys e =
 pub rule-reach : (q n l w : ℕ) → and_then (tested (rule_tests q n l)) (λ _. counted q n) ≡ Ok w → l < n
 rule-reach q n l w e = grind (arith, nat_tests)
 
-pub rule_joined : (q n l w need : ℕ) (xs ys : List ℕ) → and_then (tested (rule_tests q n l)) (λ _. counted q n) ≡ Ok w → taken (λ a. ltb a q) BadLetter need xs ≡ Ok ys →
-    rule_making q n l need xs ≡ Ok ys
-rule_joined q n l w need xs ys e t = grind (arith, nat_tests)
-
-pub density_passes : {C : Type 0} (K : Kind C) (q k : ℕ) (xs ys : List C) → table_making K q k xs ≡ Ok ys →
-    DensitySizes q k × (taken (may_enter K) BadEntry (q ^ k) xs ≡ Ok ys)
-density_passes K q k xs ys e = grind (arith, nat_tests)
-
-pub pattern_passes : {C : Type 0} (K : Kind C) (q k : ℕ) (xs ys : List ℕ) (x : C) → pattern_making K q k xs x ≡ Ok ys →
-    DensitySizes q k × (taken (λ a. ltb a q) BadLetter k xs ≡ Ok ys)
-pattern_passes K q k xs ys x e = grind (arith, nat_tests)
-
 pub ring_passes : (q room : ℕ) (ring : List ℕ) → 1 ≤ length ring → length ring ≤ most_cells → length ring ≤ room → each_fits (λ a. ltb a q) BadLetter 0 ring ≡ Ok tt → ring_checked q room ring ≡ Ok ring
 ring_passes q room ring some most fits e = grind (arith, nat_tests)
 
 pub ring-letters : (q : ℕ) (ring : List ℕ) → each_fits (λ a. ltb a q) BadLetter 0 ring ≡ Ok tt → Letters q ring
 ring-letters q ring e i h = ltb-true (get_or ring i 0) q (each_passes (λ a. ltb a q) BadLetter 0 0 ring e i h)
-
-pub ring_stopped : (q room : ℕ) (ring : List ℕ) (f : Refusal) → 1 ≤ length ring → length ring ≤ most_cells → length ring ≤ room → each_fits (λ a. ltb a q) BadLetter 0 ring ≡ Err f →
-    ring_checked q room ring ≡ Err f
-ring_stopped q room ring f some most fits e = grind (arith, nat_tests)
 
 -- letters below q are allowed
 letters_fit : (q i : ℕ) (xs : List ℕ) → Letters q xs → each_fits (λ a. ltb a q) BadLetter i xs ≡ Ok tt

@@ -3,7 +3,6 @@ use Rattle.std.proofs.Common.{◌≡◌, ℕ, zero, suc, ◌+◌, ◌-◌, ◌*�
 use native.Mathlib.Nat.{div-add-mod}
 use Rattle.std.proofs.lemmas.List.{take_more, drop_more, set_at, take_all, drop_all, ext_get_or, length-take-le}
 use Rattle.std.proofs.lemmas.Int.Digits.{number_push}
-use Rattle.fault.specs.Answers.{front}
 use Rattle.fault.proofs.Powers.{power_bound}
 use Rattle.automaton.specs.Words.{Letters, code, window, cell, before}
 use Rattle.automaton.specs.Meanings.{Local, answer, next}
@@ -71,9 +70,6 @@ module _ {X : Type 0} (xs old strip : List X) (i : ℕ) where
       ∙ ap (λ y. take i xs ++ (y ∷ drop (i + 1) old)) is
       ∙ sym (append_assoc (take i xs) (get_or xs i none ∷ []) (drop (i + 1) old))
       ∙ ap (λ t. t ++ drop (i + 1) old) (sym (take_more xs i none h))
-
-  pub front-done : i ≡ length xs → strip ≡ take i xs ++ drop i old → strip ≡ front xs old
-  front-done h e = e ∙ ap₂ (λ t n. t ++ drop n old) (take_all i xs (omega arith)) h
 
   pub slots-done : length xs ≤ i → length old ≤ i → strip ≡ take i xs ++ drop i old → strip ≡ xs
   slots-done h k e = e ∙ ap₂ ◌++◌ (take_all i xs h) (drop_all i old k) ∙ append-nil xs

@@ -20,3 +20,4 @@ pub use rule::Rule;
 pub use sum_rule::{BySum, SumRule};
 pub use table_density::TableDensity;
 pub use table_rule::{ByCode, TableRule};
+pub use words::Words;

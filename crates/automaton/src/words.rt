@@ -7,14 +7,14 @@ ghost use Rattle.automaton.specs.Making.{counted};
 use fault::limits::word_count;
 use fault::{Fault, Stop};
 
-// The words of m letters below q, which are few.
+// The words of m letters below q, and how many these are.
 #[derive(Clone, Copy)]
 pub struct Words {
-    pub(crate) q: usize,
-    pub(crate) m: usize,
-    pub(crate) count: usize,
-    ghost sizes: { DensitySizes q m },
-    ghost counted: { count ≡ q ^ m },
+    pub q: usize,
+    pub m: usize,
+    pub count: usize,
+    pub ghost sizes: { DensitySizes q m },
+    pub ghost counted: { count ≡ q ^ m },
 }
 
 impl Words {

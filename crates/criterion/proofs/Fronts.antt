@@ -1,5 +1,5 @@
 -- The crossings by codes, and the strip that they fill. Assumes nothing.
-use Rattle.std.proofs.Common.{◌≡◌, ℕ, zero, suc, ◌+◌, ◌-◌, ◌*◌, ◌/◌, ◌%◌, ◌^◌, ◌<◌, List, [], ◌∷◌, ◌++◌, map, length, get_or, take, drop, set, sym, refl, ap, ◌∙◌, subst, ap₂, add-zero, add-suc, mul_comm, div-lt_iff_lt-mul, pow-suc, zero-add, zero-mul, div-one, add-one, arith, take_all, take_at, drop_at, pow-add}
+use Rattle.std.proofs.Common.{◌≡◌, ℕ, zero, suc, ◌+◌, ◌-◌, ◌*◌, ◌/◌, ◌%◌, ◌^◌, ◌<◌, List, [], ◌∷◌, ◌++◌, map, length, get_or, take, drop, set, sym, refl, ap, ◌∙◌, subst, ap₂, add-zero, add-suc, mul_comm, div-lt_iff_lt-mul, pow-suc, zero-add, zero-mul, div-one, add-one, arith, take_all, pow-add}
 use native.Mathlib.Nat.{pow-zero, div-div-eq-div-mul}
 use lib.Seq.{take-append-le}
 use Rattle.std.specs.Int.Digits.{number_from_digits_after}
@@ -12,7 +12,6 @@ use Rattle.automaton.specs.Meanings.{Weights, weight}
 use Rattle.automaton.proofs.Codes.{length-word, power-some, code-word}
 use Rattle.automaton.proofs.Rings.{length-table, get_or-table, window-append}
 use Rattle.criterion.specs.Search.{J, crossings}
-use Rattle.criterion.specs.Strips.{FrontMeans}
 
 -- zeros at the front of a word leave its code
 code_zeros : (q n : ℕ) (w : List ℕ) → code q (repeated 0 n ++ w) ≡ code q w
@@ -113,15 +112,6 @@ module _ {C : Type 0} (K : Kind C) (d : Weights K.group.Carrier) (strip : List C
   -- a filled strip has one charge for each word of m - 1 letters
   pub filled-count : length strip ≡ d.q ^ (d.k - 1)
   filled-count = sym (length-map strip K.means) ∙ ap length filled ∙ length-table (d.q ^ (d.k - 1)) (λ v. J K 0 d (word d.q (d.k - 1) v))
-
-  -- the front of a longer strip is filled
-  pub filled-front : (old : List C) (n : ℕ) → n ≡ d.q ^ (d.k - 1) → FrontMeans K (crossings K 0 d) old (strip ++ drop n old)
-  filled-front old n all =
-      let size : length (crossings K 0 d) ≡ length strip = ap length (sym filled) ∙ length-map strip K.means in
-      let room : length (crossings K 0 d) ≡ n = size ∙ filled-count ∙ sym all in (
-        ap (λ t. map K.means (take t (strip ++ drop n old))) size ∙ ap (map K.means) (take_at strip (drop n old) (length strip) refl) ∙ filled,
-        ap (λ t. drop t (strip ++ drop n old)) size ∙ drop_at strip (drop n old) (length strip) refl ∙ ap (λ t. drop t old) (sym room),
-      )
 
 -- one more letter of a word, from its last on, in its place
 pub write_more : (q n rest : ℕ) (strip : List ℕ) → n < length strip →
