@@ -1,5 +1,5 @@
 -- Words and their codes. Assumes nothing.
-use Rattle.std.proofs.Common.{◌≡◌, ℕ, zero, suc, ◌+◌, ◌*◌, ◌/◌, ◌%◌, ◌^◌, ◌<◌, ◌↔◌, List, [], ◌∷◌, ◌++◌, length, get_or, take, drop, sym, refl, ap, ◌∙◌, subst, ap₂, mod-lt, mul_comm, div-lt_iff_lt-mul, mul-pos, pow-suc, add-one, arith, length-append, length-take, take_all, take-suc, take_at}
+use Rattle.std.proofs.Common.{◌≡◌, ℕ, zero, suc, ◌+◌, ◌*◌, ◌/◌, ◌%◌, ◌^◌, ◌<◌, ◌↔◌, List, [], ◌∷◌, ◌++◌, length, get_or, take, drop, sym, refl, ap, ◌∙◌, subst, ap₂, mod-lt, mul_comm, div-lt_iff_lt-mul, mul-pos, pow-suc, add-one, arith, length-append, length-take, take_all, take-suc}
 use native.Mathlib.Nat.{div-add-mod, pow-zero}
 use lib.Arith.{digits_div, digits_mod, mod-mul}
 use lib.Seq.{drop-append-le}
@@ -38,9 +38,6 @@ module _ (q : ℕ) (some : 0 < q) where
   -- one more letter at the end
   pub word_push : (m v a : ℕ) → a < q → word q (suc m) (v * q + a) ≡ word q m v ++ (a ∷ [])
   word_push m v a h = ap₂ (λ x y. word q m x ++ (y ∷ [])) (digits_div v h) (digits_mod v h)
-
-  pub take-word : (r v a : ℕ) → a < q → take r (word q (suc r) (v * q + a)) ≡ word q r v
-  take-word r v a h = ap (take r) (word_push r v a h) ∙ take_at (word q r v) (a ∷ []) r (length-word q r v)
 
   pub drop-word : (r c : ℕ) → drop 1 (word q (suc r) c) ≡ word q r (c % q ^ r)
   drop-word zero c = refl

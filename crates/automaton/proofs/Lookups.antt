@@ -1,12 +1,12 @@
 -- Reading what is looked up. Assumes nothing.
-use Rattle.std.proofs.Common.{◌≡◌, ℕ, zero, suc, ◌+◌, ◌-◌, ◌*◌, ◌/◌, ◌%◌, ◌^◌, ◌<◌, ◌≤◌, cond, eqb, List, [], ◌∷◌, ◌++◌, map, length, get_or, take, sym, refl, ap, ◌∙◌, suc-mul, zero-mul, arith, get_or-take, ne_eqb}
+use Rattle.std.proofs.Common.{◌≡◌, ℕ, zero, suc, ◌+◌, ◌-◌, ◌/◌, ◌%◌, ◌^◌, ◌<◌, ◌≤◌, cond, eqb, List, [], ◌∷◌, map, length, get_or, take, sym, refl, ap, ◌∙◌, arith, get_or-take, ne_eqb}
 use native.Mathlib.Decide.{dec_lt}
 use lib.ListN.{length-map, get_or-map}
 use Rattle.std.proofs.lemmas.List.{get_or_past, get_or_default}
 use Rattle.charge.specs.Groups.{Kind}
-use Rattle.automaton.specs.Words.{Letters, word, table}
-use Rattle.automaton.specs.Making.{table_rule, letter_sum, sum_rule, sum_count, table_density, pattern_density}
-use Rattle.automaton.proofs.Codes.{length-word, word-letters}
+use Rattle.automaton.specs.Words.{word, table}
+use Rattle.automaton.specs.Making.{lookup_rule, letter_sum, table_density, pattern_density}
+use Rattle.automaton.specs.Lookups.{letter_sum_push}
 use Rattle.automaton.proofs.Rings.{get_or-table, table-past, window_same}
 
 -- a table read at a code, past its end too
@@ -20,10 +20,6 @@ table_at none size xs c exact =
 -- the table of a front is the table of the whole
 pub table-front : {X : Type 0} (none : X) (size : ℕ) (xs : List X) → table size (λ i. get_or (take size xs) i none) ≡ table size (λ i. get_or xs i none)
 table-front none size xs = window_same size (λ i. get_or (take size xs) i none) (λ i. get_or xs i none) 0 0 (λ t h. get_or-take size xs (0 + t) none (omega arith))
-
-pub table_rule-front : (q n l : ℕ) (xs ys : List ℕ) → ys ≡ take (q ^ n) xs → table_rule q n l ys ≡ table_rule q n l xs
-table_rule-front q n l xs ys e =
-    ap (λ (letters : List ℕ). record { q = q; n = n; l = l; answers = letters }) (ap (λ (t : List ℕ). table (q ^ n) (λ c. get_or t c 0)) e ∙ table-front 0 (q ^ n) xs)
 
 -- a table of charges read at a code
 entry_at : {C : Type 0} (K : Kind C) (xs : List C) (c : ℕ) (x : C) → c < length xs → x ≡ get_or xs c x → K.means x ≡ get_or (map K.means xs) c K.group.zero
@@ -66,10 +62,6 @@ module _ {C : Type 0} (K : Kind C) (q k pattern : ℕ) (x : C) (c : ℕ) where
       ]
 
 -- the sums of a front
-pub letter_sum_push : (w : List ℕ) (a : ℕ) → letter_sum (w ++ (a ∷ [])) ≡ letter_sum w + a
-letter_sum_push [] a = omega arith
-letter_sum_push (b ∷ w) a = omega (arith, letter_sum_push w a)
-
 pub sum_more : (q n i front sum : ℕ) (t : ℕ) → i < n → letter_sum (word q (n - i) front) + sum ≡ t → letter_sum (word q (n - (i + 1)) (front / q)) + (sum + front % q) ≡ t
 sum_more q n i front sum t h e =
     let left : n - i ≡ suc (n - (i + 1)) = omega arith in
@@ -77,23 +69,10 @@ sum_more q n i front sum t h e =
     let split = ap (λ (m : ℕ). letter_sum (word q m front)) left in
     omega arith
 
--- a sum of letters is never past the table of sums
-pub letter_sum_bound : (q : ℕ) (w : List ℕ) → 1 ≤ q → Letters q w → letter_sum w ≤ length w * (q - 1)
-letter_sum_bound q [] some below = omega (arith, zero-mul (q - 1))
-letter_sum_bound q (a ∷ w) some below =
-    let first : a < q = below 0 (omega arith) in
-    let more = letter_sum_bound q w some (λ i h. below (suc i) (omega arith)) in
-    omega (arith, suc-mul (length w) (q - 1))
-
-pub sum_rule-front : (q n l : ℕ) (xs ys : List ℕ) → 1 ≤ q → ys ≡ take (sum_count q n) xs → sum_rule q n l ys ≡ sum_rule q n l xs
-sum_rule-front q n l xs ys some e =
+-- a rule looked up in a front is looked up in the whole
+pub lookup_rule-front : (place : ℕ → ℕ → ℕ → ℕ) (places : ℕ → ℕ → ℕ) (q n l : ℕ) (xs ys : List ℕ) → ((c : ℕ) → c < q ^ n → place q n c < places q n) → ys ≡ take (places q n) xs →
+    lookup_rule place q n l ys ≡ lookup_rule place q n l xs
+lookup_rule-front place places q n l xs ys within e =
     ap (λ (letters : List ℕ). record { q = q; n = n; l = l; answers = letters })
-    (window_same (q ^ n) (λ c. get_or ys (letter_sum (word q n c)) 0) (λ c. get_or xs (letter_sum (word q n c)) 0) 0 0
-    (λ t h. ap (λ (zs : List ℕ). get_or zs (letter_sum (word q n (0 + t))) 0) e
-    ∙ get_or-take (sum_count q n) xs (letter_sum (word q n (0 + t))) 0 (bound (0 + t))))
-  where
-    bound : (c : ℕ) → letter_sum (word q n c) < sum_count q n
-    bound c =
-        let b = letter_sum_bound q (word q n c) some (word-letters q some n c) in
-        let l = ap (λ (m : ℕ). m * (q - 1)) (length-word q n c) in
-        omega arith
+    (window_same (q ^ n) (λ c. get_or ys (place q n c) 0) (λ c. get_or xs (place q n c) 0) 0 0
+    (λ t h. ap (λ (zs : List ℕ). get_or zs (place q n (0 + t)) 0) e ∙ get_or-take (places q n) xs (place q n (0 + t)) 0 (within (0 + t) (omega arith))))

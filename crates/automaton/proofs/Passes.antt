@@ -1,17 +1,18 @@
 -- What a rule or a density has passed once it is made. Assumes nothing.
-use Rattle.std.proofs.Common.{◌≡◌, ℕ, zero, suc, ◌+◌, ◌^◌, ◌<◌, ◌≤◌, Bool, true, cond, ltb, List, [], ◌∷◌, length, get_or, take, Ok, Err, sym, refl, ap, ◌∙◌, subst, arith, length-take-le}
+use Rattle.std.proofs.Common.{◌≡◌, ℕ, zero, suc, ◌+◌, ◌<◌, ◌≤◌, Bool, true, false, cond, ltb, leb, List, [], ◌∷◌, length, get_or, take, not, Some, Ok, Err, sym, refl, ap, ◌∙◌, subst, arith, length-take-le}
+use Rattle.std.specs.List.{position, position_from}
+use Rattle.std.specs.Option.{option_map_or}
+use Rattle.std.proofs.lemmas.Iterator.Adapters.{position_from-zero}
 use Rattle.std.proofs.lemmas.Bool.{ltb-true, lt-ltb}
 use Rattle.std.proofs.lemmas.Bool.Decides.{nat_tests}
 use Rattle.fault.specs.declared.Stop.{Stop}
-use Rattle.fault.specs.declared.Stop.TheVariants.{BadLetter, BadEntry}
+use Rattle.fault.specs.declared.Stop.TheVariants.{BadLetter}
 use Rattle.fault.specs.Answers.{and_then}
 use Rattle.fault.specs.Checks.{tested, each_fits}
-use Rattle.fault.specs.Limits.{most_words, most_cells}
-use Rattle.fault.specs.Refusals.{Refusal, refused_at}
-use Rattle.charge.specs.Groups.{Kind}
+use Rattle.fault.specs.Limits.{most_cells}
+use Rattle.fault.specs.Refusals.{refused_at}
 use Rattle.automaton.specs.Words.{Letters}
-use Rattle.automaton.specs.Meanings.{RuleSizes, DensitySizes}
-use Rattle.automaton.specs.Making.{rule_tests, counted, taken, rule_making, may_enter, table_making, pattern_making, ring_checked, Ring}
+use Rattle.automaton.specs.Making.{rule_tests, counted, taken, ring_checked}
 
 -- items that all pass
 pub each_passes : {X : Type 0} (allows : X → Bool) (stop : Stop) (none : X) (i : ℕ) (xs : List X) → each_fits allows stop i xs ≡ Ok tt →
@@ -20,13 +21,30 @@ each_passes allows stop none i [] e j h = absurd (omega arith)
 each_passes allows stop none i (x ∷ xs) e zero h = grind (arith, nat_tests)
 each_passes allows stop none i (x ∷ xs) e (suc j) h = each_passes allows stop none (i + 1) xs (grind (arith, nat_tests)) j (omega arith)
 
+pub ltb-leb : (a q : ℕ) → ltb a q ≡ not (leb q a)
+ltb-leb a q = grind (arith, nat_tests)
+
+pub not-not : (b : Bool) → b ≡ not (not b)
+not-not true = refl
+not-not false = refl
+
+-- the first item that does not pass, by its index
+module _ {X : Type 0} (fits unfit : X → Bool) (same : (x : X) → fits x ≡ not (unfit x)) (stop : Stop) where
+  fits-from : (xs : List X) (i : ℕ) → each_fits fits stop i xs ≡ option_map_or (λ j. Err (refused_at stop j)) (position_from unfit i xs) (Ok tt)
+  fits-from [] i = refl
+  fits-from (x ∷ xs) i =
+      ap (λ b. cond b (each_fits fits stop (i + 1) xs) (Err (refused_at stop i))) (same x)
+      ∙ elim (unfit x) as (λ b. cond (not b) (each_fits fits stop (i + 1) xs) (Err (refused_at stop i)) ≡ option_map_or (λ j. Err (refused_at stop j)) (cond b (Some i) (position_from unfit (i + 1) xs)) (Ok tt)) [
+        | true ↦ refl
+        | false ↦ fits-from xs (i + 1)
+      ]
+
+  pub fits-position : (xs : List X) → option_map_or (λ j. Err (refused_at stop j)) (position unfit xs) (Ok tt) ≡ each_fits fits stop 0 xs
+  fits-position xs = ap (λ r. option_map_or (λ j. Err (refused_at stop j)) r (Ok tt)) (position_from-zero unfit xs) ∙ sym (fits-from xs 0)
+
 pub taken-front : {X : Type 0} (allows : X → Bool) (stop : Stop) (need : ℕ) (xs ys : List X) → taken allows stop need xs ≡ Ok ys →
     (need ≤ length xs) × (ys ≡ take need xs) × (each_fits allows stop 0 (take need xs) ≡ Ok tt)
 taken-front allows stop need xs ys e = grind (arith, nat_tests)
-
-pub rule_passes : (q n l need : ℕ) (xs ys : List ℕ) → rule_making q n l need xs ≡ Ok ys →
-    RuleSizes q n l × (q ^ n ≤ most_words) × (taken (λ a. ltb a q) BadLetter need xs ≡ Ok ys)
-rule_passes q n l need xs ys e = grind (arith, nat_tests)
 
 pub taken-letters : (q need : ℕ) (xs ys : List ℕ) → taken (λ a. ltb a q) BadLetter need xs ≡ Ok ys → (length ys ≡ need) × Letters q ys
 taken-letters q need xs ys e =
@@ -35,33 +53,14 @@ taken-letters q need xs ys e =
       subst (Letters q) (sym p.1) (λ i h. ltb-true (get_or (take need xs) i 0) q (each_passes (λ a. ltb a q) BadLetter 0 0 (take need xs) p.2 i h)),
     )
 
-pub rule-counted : (q n l w : ℕ) → and_then (tested (rule_tests q n l)) (λ _. counted q n) ≡ Ok w → (w ≡ q ^ n) × (q ^ n ≤ most_words)
-rule-counted q n l w e = grind (arith, nat_tests)
+pub rule-reach : (q n l w : ℕ) → and_then (tested (rule_tests q n l)) (λ _. counted q n) ≡ Ok w → l < n
+rule-reach q n l w e = grind (arith, nat_tests)
 
-pub rule_joined : (q n l w need : ℕ) (xs ys : List ℕ) → and_then (tested (rule_tests q n l)) (λ _. counted q n) ≡ Ok w → taken (λ a. ltb a q) BadLetter need xs ≡ Ok ys →
-    rule_making q n l need xs ≡ Ok ys
-rule_joined q n l w need xs ys e t = grind (arith, nat_tests)
+pub ring_passes : (q room : ℕ) (ring : List ℕ) → 1 ≤ length ring → length ring ≤ most_cells → length ring ≤ room → each_fits (λ a. ltb a q) BadLetter 0 ring ≡ Ok tt → ring_checked q room ring ≡ Ok ring
+ring_passes q room ring some most fits e = grind (arith, nat_tests)
 
-pub density_passes : {C : Type 0} (K : Kind C) (q k : ℕ) (xs ys : List C) → table_making K q k xs ≡ Ok ys →
-    DensitySizes q k × (taken (may_enter K) BadEntry (q ^ k) xs ≡ Ok ys)
-density_passes K q k xs ys e = grind (arith, nat_tests)
-
-pub pattern_passes : {C : Type 0} (K : Kind C) (q k : ℕ) (xs ys : List ℕ) (x : C) → pattern_making K q k xs x ≡ Ok ys →
-    DensitySizes q k × (taken (λ a. ltb a q) BadLetter k xs ≡ Ok ys)
-pattern_passes K q k xs ys x e = grind (arith, nat_tests)
-
-pub ring_passes : (q room : ℕ) (ring : List ℕ) → 1 ≤ length ring → length ring ≤ most_cells → length ring ≤ room → each_fits (λ a. ltb a q) BadLetter 0 ring ≡ Ok tt → Ring q room ring
-ring_passes q room ring some most fits e = record {
-  checked = grind (arith, nat_tests);
-  some = some;
-  most = most;
-  fits = fits;
-  letters = λ i h. ltb-true (get_or ring i 0) q (each_passes (λ a. ltb a q) BadLetter 0 0 ring e i h);
-}
-
-pub ring_stopped : (q room : ℕ) (ring : List ℕ) (f : Refusal) → 1 ≤ length ring → length ring ≤ most_cells → length ring ≤ room → each_fits (λ a. ltb a q) BadLetter 0 ring ≡ Err f →
-    ring_checked q room ring ≡ Err f
-ring_stopped q room ring f some most fits e = grind (arith, nat_tests)
+pub ring-letters : (q : ℕ) (ring : List ℕ) → each_fits (λ a. ltb a q) BadLetter 0 ring ≡ Ok tt → Letters q ring
+ring-letters q ring e i h = ltb-true (get_or ring i 0) q (each_passes (λ a. ltb a q) BadLetter 0 0 ring e i h)
 
 -- letters below q are allowed
 letters_fit : (q i : ℕ) (xs : List ℕ) → Letters q xs → each_fits (λ a. ltb a q) BadLetter i xs ≡ Ok tt
@@ -71,4 +70,4 @@ letters_fit q i (x ∷ xs) below =
     ∙ letters_fit q (i + 1) xs (λ k h. below (suc k) (omega arith))
 
 pub ring_ready : (q room : ℕ) (ring : List ℕ) → 1 ≤ length ring → length ring ≤ most_cells → length ring ≤ room → Letters q ring → ring_checked q room ring ≡ Ok ring
-ring_ready q room ring some most fits below = (ring_passes q room ring some most fits (letters_fit q 0 ring below)).checked
+ring_ready q room ring some most fits below = ring_passes q room ring some most fits (letters_fit q 0 ring below)

@@ -1,5 +1,5 @@
 -- Rules and densities as they are made, and when they are refused. Assumes nothing.
-use Rattle.std.specs.Prelude.{◌≡◌, ℕ, suc, ◌+◌, ◌-◌, ◌*◌, ◌^◌, ◌≤◌, Bool, cond, ltb, List, [], ◌∷◌, map, length, take, Ok, Err, Result, ◌==◌, nat_le, nat_lt, slice_index, slice_index_or}
+use Rattle.std.specs.Prelude.{ℕ, suc, ◌+◌, ◌-◌, ◌*◌, ◌^◌, Bool, cond, ltb, List, [], ◌∷◌, map, length, take, Ok, Err, Result, ◌==◌, nat_le, nat_lt, slice_index, slice_index_or}
 use Rattle.std.specs.Borrow.{Bor}
 use Rattle.fault.specs.declared.Fault.{Fault}
 use Rattle.fault.specs.declared.Stop.{Stop}
@@ -9,21 +9,34 @@ use Rattle.fault.specs.Checks.{tested, each_fits}
 use Rattle.fault.specs.Limits.{least_letters, most_letters, most_window, most_width, most_cells, within, few_words}
 use Rattle.fault.specs.Refusals.{Refusal, refused_at, refusal}
 use Rattle.charge.specs.Groups.{Kind}
-use Rattle.automaton.specs.Words.{Letters, word, table}
+use Rattle.automaton.specs.Words.{word, table}
 use Rattle.automaton.specs.Meanings.{Local, Weights}
 
--- the rule whose answers stand in a table, in the order of the codes
+-- the rule whose answers stand in a table of letters, each at the place of its word's code
+abbrev pub lookup_rule : (ℕ → ℕ → ℕ → ℕ) → ℕ → ℕ → ℕ → List ℕ → Local
+lookup_rule place q n l letters = record { q = q; n = n; l = l; answers = table (q ^ n) (λ c. slice_index letters (place q n c)) }
+
+-- in the order of the codes
+abbrev pub by_code : ℕ → ℕ → ℕ → ℕ
+by_code q n c = c
+
+abbrev pub code_count : ℕ → ℕ → ℕ
+code_count q n = q ^ n
+
 abbrev pub table_rule : ℕ → ℕ → ℕ → List ℕ → Local
-table_rule q n l letters = record { q = q; n = n; l = l; answers = table (q ^ n) (λ c. slice_index letters c) }
+table_rule = lookup_rule by_code
 
 -- the sum of a word's letters
 abbrev pub letter_sum : List ℕ → ℕ
 letter_sum [] = 0
 letter_sum (a ∷ w) = a + letter_sum w
 
--- the rule whose answer stands at the sum of the window's letters
+-- at the sum of the window's letters
+abbrev pub by_sum : ℕ → ℕ → ℕ → ℕ
+by_sum q n c = letter_sum (word q n c)
+
 abbrev pub sum_rule : ℕ → ℕ → ℕ → List ℕ → Local
-sum_rule q n l letters = record { q = q; n = n; l = l; answers = table (q ^ n) (λ c. slice_index letters (letter_sum (word q n c))) }
+sum_rule = lookup_rule by_sum
 
 -- how many sums n letters have
 abbrev pub sum_count : ℕ → ℕ → ℕ
@@ -116,11 +129,3 @@ ring_checked q room ring =
     (and_then (each_fits (λ a. ltb a q) BadLetter 0 ring) (λ _. Ok ring))
     (Err (refused_at ShortStrip 0)))
     (Err (refused_at BadLength 0))
-
--- what such a ring has passed
-pub record Ring (q room : ℕ) (ring : List ℕ) : Type 0 where
-  pub checked : ring_checked q room ring ≡ Ok ring
-  pub some : 1 ≤ length ring
-  pub most : length ring ≤ most_cells
-  pub fits : length ring ≤ room
-  pub letters : Letters q ring

@@ -13,13 +13,13 @@ pub trait Density<C: Charge> {
 
     // The alphabet size.
     fn q(&self) -> usize
-        ensures { result ≡ (weights C.Charge.kind self.now).q };
+        ensures { result ≡ (weights C.kind self.now).q };
 
     // How many letters a word has.
     fn k(&self) -> usize
-        ensures { result ≡ (weights C.Charge.kind self.now).k };
+        ensures { result ≡ (weights C.kind self.now).k };
 
     // The charge of the word of this code, and zero past the last code.
     fn charge(&self, code: usize) -> C
-        ensures { C.Charge.kind.means result ≡ slice_index_or (weights C.Charge.kind self.now).charges code C.Charge.kind.group.zero };
+        ensures { C.kind.means result ≡ slice_index_or (weights C.kind self.now).charges code C.kind.group.zero };
 }

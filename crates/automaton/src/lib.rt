@@ -2,6 +2,7 @@
 #![tactic(auto)]
 
 mod density;
+mod lookup_rule;
 mod making;
 mod pattern;
 mod ring;
@@ -9,11 +10,14 @@ mod rule;
 mod sum_rule;
 mod table_density;
 mod table_rule;
+mod words;
 
 pub use density::Density;
+pub use lookup_rule::LookupRule;
 pub use pattern::PatternDensity;
 pub use ring::{next_ring, total};
 pub use rule::Rule;
-pub use sum_rule::SumRule;
+pub use sum_rule::{BySum, SumRule};
 pub use table_density::TableDensity;
-pub use table_rule::TableRule;
+pub use table_rule::{ByCode, TableRule};
+pub use words::Words;

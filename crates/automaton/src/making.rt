@@ -1,130 +1,94 @@
 // The tests that rules, densities and rings are held to: the lowest stop code that fits is the refusal.
-ghost use Rattle.std.specs.Prelude.{◌≡◌, suc, Bool, true, Err, OnOk, nat_lt};
+ghost use Rattle.std.specs.Prelude.{◌≡◌, Ok, Err, MatchResult, not, nat_le, nat_lt, position};
+ghost use Rattle.std.specs.Option.{option_map_or};
+ghost use Rattle.fault.specs.declared.Stop.TheVariants.{BadLetter, BadEntry};
 ghost use Rattle.fault.specs.Answers.{plainly, and_then};
 ghost use Rattle.fault.specs.Checks.{tested, each_fits};
-ghost use Rattle.fault.specs.Limits.{least_letters, most_letters, within};
-ghost use Rattle.automaton.specs.Meanings.{RuleSizes, DensitySizes};
+ghost use Rattle.fault.specs.Refusals.{refusal, refused_at};
 ghost use Rattle.automaton.specs.Making.{rule_tests, density_tests, may_enter, counted, lent, taken};
 
+use crate::words::Words;
 use charge::Charge;
-use fault::limits::{LEAST_LETTERS, MOST_LETTERS, MOST_WIDTH, MOST_WINDOW, word_count};
+use fault::limits::{LEAST_LETTERS, MOST_LETTERS, MOST_WIDTH, MOST_WINDOW};
 use fault::{Fault, Stop};
 
-// A test of single items.
-pub(crate) trait Test<X> {
-    ghost allows: { Self → X → Bool };
-
-    fn allows(&self, item: X) -> bool
-        ensures { result ≡ allows self.now item };
-}
-
-// Letters below q.
-#[derive(Drop)]
-pub(crate) struct Alphabet {
-    pub q: usize,
-}
-
-impl Test<u8> for Alphabet {
-    ghost allows = { λ t a. nat_lt a t.q };
-
-    fn allows(&self, item: u8) -> bool {
-        (item as usize) < self.q
-    }
-}
-
-// Charges that may be entries of a density.
-#[derive(Drop)]
-pub(crate) struct Entries;
-
-impl<C: Charge> Test<C> for Entries {
-    ghost allows = { λ _ x. may_enter C.Charge.kind x };
-
-    fn allows(&self, item: C) -> bool {
-        item.is_entry()
-    }
-}
-
-// A refusal that speaks of a place.
-fn refuse<T>(stop: Stop, place: usize) -> Result<T, Fault>
-    ensures { result ≡ Err (record { stop = stop; place = place }) }
+// The words of a rule's window.
+pub(crate) fn check_rule(q: u64, n: u64, l: u64) -> Result<Words, Fault>
+    ensures { MatchResult result (λ w. (and_then (tested (rule_tests q n l)) (λ _. counted q n) ≡ Ok w.count) × (w.q ≡ q) × (w.m ≡ n)) (λ f. and_then (tested (rule_tests q n l)) (λ _. counted q n) ≡ Err (refusal f)) }
 {
-    Err(Fault { stop, place })
+    Stop::BadAlphabet.unless(LEAST_LETTERS <= q && q <= MOST_LETTERS)?;
+    Stop::BadWindow.unless(1 <= n && n <= MOST_WINDOW)?;
+    Stop::BadReach.unless(l < n)?;
+    Words::few(q, n)
 }
 
-// Each item passes; else the index of the first that does not.
-pub(crate) fn check_each<X: Copy, T: Test<X>>(
-    test: &T,
-    items: &[X],
-    stop: Stop,
-) -> Result<(), Fault>
-    ensures { plainly result ≡ each_fits (T.Test.allows test.now) stop 0 items.now }
+// The words of a density's width.
+pub(crate) fn check_density(q: u64, k: u64) -> Result<Words, Fault>
+    ensures { MatchResult result (λ w. (and_then (tested (density_tests q k)) (λ _. counted q k) ≡ Ok w.count) × (w.q ≡ q) × (w.m ≡ k)) (λ f. and_then (tested (density_tests q k)) (λ _. counted q k) ≡ Err (refusal f)) }
 {
-    for (i, item) in items.iter().enumerate() {
-        if !test.allows(*item) {
-            return refuse(stop, i);
-        }
-    }
-    Ok(())
+    Stop::BadAlphabet.unless(LEAST_LETTERS <= q && q <= MOST_LETTERS)?;
+    Stop::BadWidth.unless(1 <= k && k <= MOST_WIDTH)?;
+    Words::few(q, k)
 }
 
-// How many words there are of m letters, for a window or a width that has passed.
-fn check_words(q: u64, m: u64) -> Result<usize, Fault>
-    requires { within least_letters (suc most_letters) q ≡ true }
-    ensures { plainly result ≡ counted q m }
+// Each letter is below q; else the index of the first that is not.
+pub(crate) fn check_letters(q: usize, letters: &[u8]) -> Result<(), Fault>
+    ensures { plainly result ≡ each_fits (λ a. nat_lt a q) BadLetter 0 letters.now }
 {
-    match word_count(q, m) {
-        Some(count) => Ok(count),
-        None => Err(Fault {
-            stop: Stop::TooManyWords,
-            place: 0,
-        }),
-    }
+    refuse_first(Stop::BadLetter, past_alphabet(q, letters))
 }
 
-// How many words a rule answers.
-pub(crate) fn check_rule(q: u64, n: u64, l: u64) -> Result<usize, Fault>
-    ensures answer { plainly result ≡ and_then (tested (rule_tests q n l)) (λ _. counted q n) }
-    ensures sizes { OnOk result (RuleSizes q n l) }
+// The index of the first letter that is not below q.
+fn past_alphabet(q: usize, letters: &[u8]) -> Option<usize>
+    ensures { result ≡ position (λ a. nat_le q a) letters.now }
 {
-    if q < LEAST_LETTERS || q > MOST_LETTERS {
-        return refuse(Stop::BadAlphabet, 0);
-    }
-    if n < 1 || n > MOST_WINDOW {
-        return refuse(Stop::BadWindow, 0);
-    }
-    if l >= n {
-        return refuse(Stop::BadReach, 0);
-    }
-    check_words(q, n)
+    letters.iter().position(|a| *a as usize >= q)
 }
 
-// How many words a density weighs.
-pub(crate) fn check_density(q: u64, k: u64) -> Result<usize, Fault>
-    ensures answer { plainly result ≡ and_then (tested (density_tests q k)) (λ _. counted q k) }
-    ensures sizes { OnOk result (DensitySizes q k) }
+// Each charge may be an entry of a density; else the index of the first that may not.
+fn check_entries<C: Charge>(entries: &[C]) -> Result<(), Fault>
+    ensures { plainly result ≡ each_fits (may_enter C.kind) BadEntry 0 entries.now }
 {
-    if q < LEAST_LETTERS || q > MOST_LETTERS {
-        return refuse(Stop::BadAlphabet, 0);
-    }
-    if k < 1 || k > MOST_WIDTH {
-        return refuse(Stop::BadWidth, 0);
-    }
-    check_words(q, k)
+    refuse_first(Stop::BadEntry, past_range(entries))
 }
 
-// The first `need` items of a strip, where there are as many and each passes.
-pub(crate) fn take_checked<'a, X: Copy, T: Test<X>>(
-    test: &T,
-    stop: Stop,
-    need: usize,
-    items: &'a [X],
-) -> Result<&'a [X], Fault>
-    ensures { lent result ≡ taken (T.Test.allows test.now) stop need items.now }
+// The index of the first charge that may not be an entry of a density.
+fn past_range<C: Charge>(entries: &[C]) -> Option<usize>
+    ensures { result ≡ position (λ x. not (may_enter C.kind x)) entries.now }
 {
-    if items.len() < need {
-        return refuse(Stop::ShortStrip, 0);
-    }
-    let front = &items[0..need];
-    check_each(test, front, stop)?;
-    Ok(front)
+    entries.iter().position(|x| !x.is_entry())
+}
+
+// The refusal that speaks of a place, if there is one.
+fn refuse_first(stop: Stop, place: Option<usize>) -> Result<(), Fault>
+    ensures { plainly result ≡ option_map_or (λ i. Err (refused_at stop i)) place (Ok tt) }
+{
+    place.map_or(Ok(()), |i| Err(stop.at(i)))
+}
+
+// The first `need` letters of a strip, where there are as many and each is below q.
+pub(crate) fn take_letters<'a>(q: usize, need: usize, strip: &'a [u8]) -> Result<&'a [u8], Fault>
+    ensures { lent result ≡ taken (λ a. nat_lt a q) BadLetter need strip.now }
+{
+    Stop::ShortStrip.unless(need <= strip.len())?;
+    let letters = &strip[..need];
+    check_letters(q, letters)?;
+    Ok(letters)
+}
+
+// The word at the front of a strip.
+pub(crate) fn take_word<'a>(words: Words, strip: &'a [u8]) -> Result<&'a [u8], Fault>
+    ensures { lent result ≡ taken (λ a. nat_lt a words.q) BadLetter words.m strip.now }
+{
+    take_letters(words.q, words.m, strip)
+}
+
+// The charges at the front of a strip, one for each word, where there are as many and each may be an entry.
+pub(crate) fn take_entries<'a, C: Charge>(words: Words, strip: &'a [C]) -> Result<&'a [C], Fault>
+    ensures { lent result ≡ taken (may_enter C.kind) BadEntry words.count strip.now }
+{
+    Stop::ShortStrip.unless(words.count <= strip.len())?;
+    let entries = &strip[..words.count];
+    check_entries(entries)?;
+    Ok(entries)
 }

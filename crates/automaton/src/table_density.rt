@@ -1,36 +1,34 @@
 // Densities by a lent table of their charges.
-ghost use Rattle.std.specs.Prelude.{◌≡◌, ◌^◌, ◌<◌, ◌≤◌, length, MatchResult, slice_index_or};
+ghost use Rattle.std.specs.Prelude.{◌≡◌, ◌<◌, ◌≤◌, length, MatchResult, slice_index_or};
 ghost use Rattle.fault.specs.Answers.{plainly};
-ghost use Rattle.automaton.specs.Meanings.{DensitySizes};
-ghost use Rattle.automaton.specs.Making.{table_density, zero_density, table_making, done, lent};
+ghost use Rattle.automaton.specs.Making.{table_density, zero_density, table_making, done};
 ghost use Rattle.automaton.specs.Lookups.{table_weighed};
 
 use crate::density::Density;
-use crate::making::{Entries, check_density, take_checked};
+use crate::making::{check_density, take_entries};
+use crate::words::Words;
 use charge::Charge;
-use fault::{Fault, Stop};
+use fault::Fault;
 
 // A density of which the charges stand in a table, in the order of the codes.
 #[derive(Drop)]
 pub struct TableDensity<'a, C> {
-    q: usize,
-    k: usize,
+    words: Words,
     entries: &'a [C],
-    ghost sizes: { DensitySizes q k },
-    ghost exact: { length entries.now ≤ q ^ k },
+    ghost exact: { length entries.now ≤ words.count },
 }
 
 impl<C: Charge> Density<C> for TableDensity<'_, C> {
-    ghost weights = { λ K t. table_density K t.q t.k t.entries.now };
+    ghost weights = { λ K t. table_density K t.words.q t.words.m t.entries.now };
 
-    ghost lawful = { λ K t. table_weighed K t.q t.k t.entries.now t.sizes };
+    ghost lawful = { λ K t. table_weighed K t.words.q t.words.m t.entries.now t.words.sizes };
 
     fn q(&self) -> usize {
-        self.q
+        self.words.q
     }
 
     fn k(&self) -> usize {
-        self.k
+        self.words.m
     }
 
     fn charge(&self, code: usize) -> C {
@@ -41,26 +39,22 @@ impl<C: Charge> Density<C> for TableDensity<'_, C> {
 impl<'a, C: Charge> TableDensity<'a, C> {
     // The density of two letters that weigh nothing.
     pub fn zero() -> TableDensity<'a, C>
-        ensures { table_density C.Charge.kind result.q result.k result.entries.now ≡ zero_density C.Charge.kind }
+        ensures { table_density C.kind result.words.q result.words.m result.entries.now ≡ zero_density C.kind }
     {
         TableDensity {
-            q: 2,
-            k: 1,
+            words: Words::least(),
             entries: &[],
         }
     }
 
     // Becomes the density of a table, or refuses and stays as it was.
     pub fn fill(&mut self, q: u64, k: u64, entries: &'a [C]) -> Result<(), Fault>
-        ensures answer { plainly result ≡ done (table_making C.Charge.kind q k entries.now) }
-        ensures density { MatchResult result (λ _. table_density C.Charge.kind self.new.q self.new.k self.new.entries.now ≡ table_density C.Charge.kind q k entries.now) (λ _. self.new ≡ self.old) }
+        ensures answer { plainly result ≡ done (table_making C.kind q k entries.now) }
+        ensures density { MatchResult result (λ _. table_density C.kind self.new.words.q self.new.words.m self.new.entries.now ≡ table_density C.kind q k entries.now) (λ _. self.new ≡ self.old) }
     {
-        let entries = table_entries(q, k, entries)?;
-        *self = TableDensity {
-            q: q as usize,
-            k: k as usize,
-            entries,
-        };
+        let words = check_density(q, k)?;
+        let entries = take_entries(words, entries)?;
+        *self = TableDensity { words, entries };
         Ok(())
     }
 }
@@ -68,19 +62,11 @@ impl<'a, C: Charge> TableDensity<'a, C> {
 // The charge at an index, and zero past the last.
 fn charge_at<C: Charge>(entries: &[C], index: usize) -> C
     ensures inside { index < length entries.now → result ≡ slice_index_or entries.now index result }
-    ensures past { length entries.now ≤ index → C.Charge.kind.means result ≡ C.Charge.kind.group.zero }
+    ensures past { length entries.now ≤ index → C.kind.means result ≡ C.kind.group.zero }
 {
     if index < entries.len() {
         entries[index]
     } else {
         C::zero()
     }
-}
-
-// The entries of a table, one for each word.
-fn table_entries<'a, C: Charge>(q: u64, k: u64, entries: &'a [C]) -> Result<&'a [C], Fault>
-    ensures { lent result ≡ table_making C.Charge.kind q k entries.now }
-{
-    let count = check_density(q, k)?;
-    take_checked(&Entries, Stop::BadEntry, count, entries)
 }

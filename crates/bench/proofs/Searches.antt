@@ -1,6 +1,5 @@
 -- What is found among the words of a label that keeps sizes of its own. Assumes nothing.
 use Rattle.std.proofs.Common.{◌≡◌, ℕ, ◌+◌, ◌-◌, ◌≤◌, max, List, length, take, drop, Some, None, Ok, Err, Option, Result, sym, refl, ap, ◌∙◌, subst, ap₂, arith, length-append, take_at}
-use Rattle.std.specs.Option.{option_map}
 use Rattle.fault.specs.Answers.{and_then, front, strip_after}
 use Rattle.fault.specs.Refusals.{Refusal}
 use Rattle.charge.specs.Groups.{Kind, Equality}
@@ -15,7 +14,7 @@ use Rattle.criterion.specs.Strips.{FrontMeans}
 use Rattle.bench.specs.Labels.{rule_label_list, two_label, two_label_list, listed}
 use Rattle.bench.specs.Laws.{VerdictRight, ComparisonRight}
 use Rattle.bench.specs.Sized.{sized_rule, sized_density, first_sized, second_sized}
-use Rattle.bench.specs.Verdicts.{Broken, broken, fitting, judge_found, compare_found}
+use Rattle.bench.specs.Verdicts.{Ring, fitting, judge_found, compare_found}
 use Rattle.bench.specs.declared.sizes.RuleSizes.{RuleSizes}
 use Rattle.bench.specs.declared.sizes.TwoSizes.{TwoSizes}
 use Rattle.bench.proofs.Rights.{fits, label-sizes, verdict_right, comparison_right}
@@ -34,16 +33,9 @@ module _ {C : Type 0} (K : Kind C) (E : Equality K.group) (a b : ℕ) (L M : Wei
       subst (λ (u : Result (Unit {0}) Refusal). Left K (and_then u (λ _. examined K E padding M a b)) (crossings K padding M) said old new was now) (sym passed)
       (subst (λ (N : Weights K.group.Carrier). Left K (examined K E padding N a b) (crossings K padding N) said old new was now) same (record { answer = x; crossings = y; ring = z }))
 
--- a refusal of the sizes
-pub left-refused : {C : Type 0} (K : Kind C) (E : Equality K.group) (a b : ℕ) (M : Weights K.group.Carrier) (t : Result (Unit {0}) Refusal) (f : Refusal) (old : List C) (was : List ℕ) → t ≡ Err f →
-    Left K (and_then t (λ _. examined K E padding M a b)) (crossings K padding M) (Err f) old old was was
-left-refused K E a b M t f old was refused =
-    subst (λ (u : Result (Unit {0}) Refusal). Left K (and_then u (λ _. examined K E padding M a b)) (crossings K padding M) (Err f) old old was was) (sym refused)
-    (record { answer = refl; crossings = (refl, refl); ring = refl })
-
 -- a label that keeps the sizes that its parts have is the label of its parts
 pub rule_list-same : {C : Type 0} (K : Kind C) (s : RuleSizes) (r : Local) (d : Weights K.group.Carrier) →
-    s.q ≡ r.q → s.n ≡ r.n → s.l ≡ r.l → s.k ≡ d.k → s.q ≡ d.q → rule_label_list K.group (sized_rule s r) (sized_density s d) ≡ rule_label_list K.group r d
+    s.words.q ≡ r.q → s.n ≡ r.n → s.l ≡ r.l → s.k ≡ d.k → s.words.q ≡ d.q → rule_label_list K.group (sized_rule s r) (sized_density s d) ≡ rule_label_list K.group r d
 rule_list-same {C} K s r d eq en el ek eq' =
     ap₂ (rule_label_list K.group) rule density
   where
@@ -54,10 +46,10 @@ rule_list-same {C} K s r d eq en el ek eq' =
     density i = record { q = eq' i; k = ek i; charges = d.charges }
 
 pub two_list-same : {C : Type 0} (K : Kind C) (s : TwoSizes) (d e : Weights K.group.Carrier) →
-    s.q ≡ d.q → s.first ≡ d.k → s.second ≡ e.k → s.q ≡ e.q → s.m ≡ max s.first s.second →
-    listed s.q s.m (two_label K.group (first_sized s d) (second_sized s e)) ≡ two_label_list K.group d e
+    s.words.q ≡ d.q → s.first ≡ d.k → s.second ≡ e.k → s.words.q ≡ e.q → s.words.m ≡ max s.first s.second →
+    listed s.words.q s.words.m (two_label K.group (first_sized s d) (second_sized s e)) ≡ two_label_list K.group d e
 two_list-same {C} K s d e eq e1 e2 eq' em =
-    ap (λ (m : ℕ). listed s.q m (two_label K.group (first_sized s d) (second_sized s e))) em ∙ ap₂ (two_label_list K.group) first second
+    ap (λ (m : ℕ). listed s.words.q m (two_label K.group (first_sized s d) (second_sized s e))) em ∙ ap₂ (two_label_list K.group) first second
   where
     first : first_sized s d ≡ d
     first i = record { q = eq i; k = e1 i; charges = d.charges }
@@ -70,7 +62,7 @@ pub record Shown (q : ℕ) (found : Result (Option (ℕ × List ℕ)) Refusal) (
   pub ring : List ℕ
   pub is : found ≡ Ok (Some (word, ring))
   pub size : length ring ≡ len
-  pub part : take (len - 0) strip ≡ ring
+  pub part : take len strip ≡ ring
   pub room : len ≤ length strip
   pub some : 1 ≤ len
   pub most : len ≤ 23
@@ -94,7 +86,7 @@ shown_in q w n found was strip e s apart =
       ring = c;
       is = p.1;
       size = p.2;
-      part = ap (take (n - 0)) whole ∙ take_at c (drop (length c) was) (n - 0) (omega (arith, p.2));
+      part = ap (take n) whole ∙ take_at c (drop (length c) was) n (omega (arith, p.2));
       room = omega (arith, p.2, longer);
       some = omega (arith, a.0, p.2);
       most = omega (arith, a.1, p.2);
@@ -134,61 +126,41 @@ module _ {C : Type 0} (K : Kind C) (E : Equality K.group) (a b : ℕ) (w n : ℕ
         fit.0,
       )
 
--- the part of the strip that is the ring, and the answer with its totals
+-- the part of the strip that is the ring
 module _ {q : ℕ} {found : Result (Option (ℕ × List ℕ)) Refusal} {w n : ℕ} {strip : List ℕ} (s : Shown q found w n strip) where
-  pub shown-fits : (1 ≤ length (take (n - 0) strip)) × (length (take (n - 0) strip) ≤ 23) × Letters q (take (n - 0) strip)
+  pub shown-fits : Ring q (take n strip)
   shown-fits =
       let size = ap length s.part ∙ s.size in
       (omega (arith, s.some, size), omega (arith, s.most, size), subst (Letters q) (sym s.part) s.letters)
 
-  -- over an alphabet that is the same
-  pub shown-letters : (p : ℕ) → q ≡ p → Letters p (take (n - 0) strip)
-  shown-letters p e = subst (λ (k : ℕ). Letters k (take (n - 0) strip)) e shown-fits.2
+-- a ring that may be shown has its total, and its next ring
+module _ {C : Type 0} (K : Kind C) (d : Weights K.group.Carrier) where
+  pub total_is : (ring : List ℕ) → Ring d.q ring → and_then (ring_checked d.q (length ring) ring) (λ c. Ok (total K.group d c)) ≡ Ok (total K.group d ring)
+  total_is ring shows = ap (λ t. and_then t (λ c. Ok (total K.group d c))) (ring_ready d.q (length ring) ring shows.0 (omega (arith, shows.1)) (omega arith) shows.2)
 
-  pub shown_break : {A : Type 0} (first second : List ℕ → A) (b : Broken A) → b ≡ broken first second (w, take (n - 0) strip) →
-      Ok (Some b) ≡ and_then found (λ f. Ok (option_map (broken first second) f))
-  shown_break {A} first second b e =
-      ap (λ x. Ok (Some x)) (e ∙ ap (λ ring. broken first second (w, ring)) s.part)
-      ∙ sym (ap (λ t. and_then t (λ f. Ok (option_map (broken first second) f))) s.is)
+  pub not-refused : (ring : List ℕ) → Ring d.q ring → (f : Refusal) → Err f ≡ and_then (ring_checked d.q (length ring) ring) (λ c. Ok (total K.group d c)) → ⊥
+  not-refused ring shows f e = let clash : Err f ≡ Ok (total K.group d ring) = e ∙ total_is ring shows in grind arith
 
-  pub shown-broken : {A : Type 0} (first second : List ℕ → A) (x y : A) → x ≡ first (take (n - 0) strip) → y ≡ second (take (n - 0) strip) →
-      Ok (Some (record { word = w; len = n; first = x; second = y })) ≡ and_then found (λ f. Ok (option_map (broken first second) f))
-  shown-broken {A} first second x y ex ey =
-      sym (ap (λ t. and_then t (λ f. Ok (option_map (broken first second) f))) s.is
-      ∙ ap (λ b. Ok (Some b)) (λ i. record {
-        word = w;
-        len = s.size i;
-        first = (sym (ex ∙ ap first s.part)) i;
-        second = (sym (ey ∙ ap second s.part)) i;
-      }))
+module _ (r : Local) (ring : List ℕ) (shows : Ring r.q ring) (was : List ℕ) (long : length was ≡ 23) where
+  ready : ring_checked r.q (length was) ring ≡ Ok ring
+  ready = ring_ready r.q (length was) ring shows.0 (omega (arith, shows.1)) (omega (arith, shows.1)) shows.2
 
--- what is found, in another form
-pub found_as : {A B : Type 0} (h : Option (Broken A) → B) (first second : List ℕ → A) (found : Result (Option (ℕ × List ℕ)) Refusal) (x : Result (Option (Broken A)) Refusal) →
-    x ≡ and_then found (λ f. Ok (option_map (broken first second) f)) → and_then x (λ b. Ok (h b)) ≡ and_then found (λ f. Ok (h (option_map (broken first second) f)))
-found_as {A} h first second found x e = ap (λ t. and_then t (λ b. Ok (h b))) e ∙ same found
-  where
-    same : (found : Result (Option (ℕ × List ℕ)) Refusal) →
-        and_then (and_then found (λ f. Ok (option_map (broken first second) f))) (λ b. Ok (h b)) ≡ and_then found (λ f. Ok (h (option_map (broken first second) f)))
-    same (Ok f) = refl
-    same (Err f) = refl
+  pub next-given : (f : Refusal) → Err f ≡ done (ring_checked r.q (length was) ring) → ⊥
+  next-given f e = let clash : Err f ≡ Ok tt = e ∙ ap done ready in grind arith
 
--- a total that is no refusal, and the next ring
-module _ {C : Type 0} (K : Kind C) (d : Weights K.group.Carrier) (ring : List ℕ) (some : 1 ≤ length ring) (most : length ring ≤ 23) where
-  pub total_given : Letters d.q ring → (f : Refusal) → Err f ≡ and_then (ring_checked d.q (length ring) ring) (λ c. Ok (total K.group d c)) → ⊥
-  total_given below f e =
-      let clash : Err f ≡ Ok (total K.group d ring) = e ∙ ap (λ t. and_then t (λ c. Ok (total K.group d c))) (ring_ready d.q (length ring) ring some (omega arith) (omega arith) below) in
-      grind arith
+  pub next-part : (strip : List ℕ) → strip ≡ strip_after (next r) was (ring_checked r.q (length was) ring) → take (length ring) strip ≡ next r ring
+  next-part strip e =
+      ap (take (length ring)) (e ∙ ap (strip_after (next r) was) ready)
+      ∙ take_at (next r ring) (drop (length (next r ring)) was) (length ring) (omega (arith, length-next r ring))
 
-  module _ (r : Local) (lawful : Lawful r) (alphabet : r.q ≡ d.q) (was : List ℕ) (long : length was ≡ 23) where
-    pub next_given : Letters r.q ring → (f : Refusal) → Err f ≡ done (ring_checked r.q (length was) ring) → ⊥
-    next_given below f e =
-        let clash : Err f ≡ Ok tt = e ∙ ap done (ring_ready r.q (length was) ring some (omega arith) (omega arith) below) in
-        grind arith
+  pub next-shows : Lawful r → Ring r.q (next r ring)
+  next-shows lawful =
+      (omega (arith, length-next r ring, shows.0), omega (arith, length-next r ring, shows.1), (next_word r ring (omega (arith, lawful.sizes.0)) lawful.letters).1)
 
-    pub next-part : (strip : List ℕ) → Letters r.q ring → strip ≡ strip_after (next r) was (ring_checked r.q (length was) ring) → take (length ring - 0) strip ≡ next r ring
-    next-part strip below e =
-        ap (take (length ring - 0)) (e ∙ ap (strip_after (next r) was) (ring_ready r.q (length was) ring some (omega arith) (omega arith) below))
-        ∙ take_at (next r ring) (drop (length (next r ring)) was) (length ring - 0) (omega (arith, length-next r ring))
-
-    pub next_letters_below : Letters d.q (next r ring)
-    next_letters_below = subst (λ (q : ℕ). Letters q (next r ring)) alphabet (next_word r ring (omega (arith, lawful.sizes.0)) lawful.letters).1
+  -- the total of the ring after one step
+  pub later_is : {C : Type 0} (K : Kind C) (d : Weights K.group.Carrier) → Lawful r → r.q ≡ d.q → (strip : List ℕ) → strip ≡ strip_after (next r) was (ring_checked r.q (length was) ring) →
+      and_then (ring_checked d.q (length (take (length ring) strip)) (take (length ring) strip)) (λ c. Ok (total K.group d c)) ≡ Ok (total K.group d (next r ring))
+  later_is K d lawful alphabet strip e =
+      let part = next-part strip e in
+      ap (λ c. and_then (ring_checked d.q (length c) c) (λ c. Ok (total K.group d c))) part
+      ∙ total_is K d (next r ring) (subst (λ (q : ℕ). Ring q (next r ring)) alphabet (next-shows lawful))

@@ -1,11 +1,9 @@
 -- What the bench's calls answer, by what it means. Assumes nothing.
 use Rattle.std.specs.Option.{option_map}
-use Rattle.std.specs.Prelude.{Ok, Err, Option, Result}
+use Rattle.std.specs.Prelude.{Some, None, Ok, Err, Option, Result}
 use Rattle.fault.specs.declared.Fault.{Fault}
 use Rattle.fault.specs.Refusals.{Refusal, refusal}
 use Rattle.charge.specs.Groups.{Kind}
-use Rattle.bench.specs.declared.comparing.Likeness.{Likeness}
-use Rattle.bench.specs.declared.comparing.Likeness.TheVariants.{Agree, Differ}
 use Rattle.bench.specs.declared.state.Break.{Break}
 use Rattle.bench.specs.declared.state.Draft.{Draft}
 use Rattle.bench.specs.declared.state.Parts.{Parts}
@@ -26,18 +24,22 @@ abbrev pub verdict_means : {C R D : Type 0} → (K : Kind C) → Verdict C R D �
 verdict_means K (Holds h) = holds
 verdict_means K (Breaks h b) = breaks (break_means K b)
 
-abbrev pub likeness_means : {C : Type 0} → (K : Kind C) → Likeness C → Comparison K.group.Carrier
-likeness_means K Agree = agree
-likeness_means K (Differ b) = differ (break_means K b)
+abbrev pub likeness_means : {C : Type 0} → (K : Kind C) → Option (Break C) → Comparison K.group.Carrier
+likeness_means K None = agree
+likeness_means K (Some b) = differ (break_means K b)
 
 -- the answers of the calls, likewise
 abbrev pub judge_said : {C R D : Type 0} → (K : Kind C) → Result (Verdict C R D) (Refused (Draft R D)) → Result (Judgement K.group.Carrier) Refusal
 judge_said K (Ok v) = Ok (verdict_means K v)
 judge_said K (Err e) = Err (refusal e.fault)
 
-abbrev pub compare_said : {C : Type 0} → (K : Kind C) → Result (Likeness C) Fault → Result (Comparison K.group.Carrier) Refusal
+abbrev pub compare_said : {C : Type 0} → (K : Kind C) → Result (Option (Break C)) Fault → Result (Comparison K.group.Carrier) Refusal
 compare_said K (Ok v) = Ok (likeness_means K v)
 compare_said K (Err f) = Err (refusal f)
+
+abbrev pub broken_said : {C : Type 0} → (K : Kind C) → Result (Break C) Fault → Result (Broken K.group.Carrier) Refusal
+broken_said K (Ok b) = Ok (break_means K b)
+broken_said K (Err f) = Err (refusal f)
 
 abbrev pub found_said : {C : Type 0} → (K : Kind C) → Result (Option (Break C)) Fault → Result (Option (Broken K.group.Carrier)) Refusal
 found_said K (Ok found) = Ok (breaks_mean K found)

@@ -1,5 +1,7 @@
 -- Rules and densities with the sizes that a label keeps of them. Assumes nothing.
-use Rattle.std.specs.Prelude.{ℕ, ◌^◌, List}
+use Rattle.std.proofs.Common.{subst}
+use Rattle.std.specs.Prelude.{◌≡◌, ℕ, ◌^◌, List}
+use Rattle.automaton.specs.declared.words.Words.{Words}
 use Rattle.automaton.specs.Words.{word}
 use Rattle.automaton.specs.Tables.{length-table}
 use Rattle.automaton.specs.Meanings.{Local, Weights, DensitySizes, Weighed}
@@ -8,16 +10,20 @@ use Rattle.bench.specs.declared.sizes.TwoSizes.{TwoSizes}
 use Rattle.bench.specs.Labels.{listed}
 
 abbrev pub sized_rule : RuleSizes → Local → Local
-sized_rule s r = record { q = s.q; n = s.n; l = s.l; answers = r.answers }
+sized_rule s r = record { q = s.words.q; n = s.n; l = s.l; answers = r.answers }
 
 abbrev pub sized_density : {A : Type 0} → RuleSizes → Weights A → Weights A
-sized_density s d = record { q = s.q; k = s.k; charges = d.charges }
+sized_density s d = record { q = s.words.q; k = s.k; charges = d.charges }
 
 abbrev pub first_sized : {A : Type 0} → TwoSizes → Weights A → Weights A
-first_sized s d = record { q = s.q; k = s.first; charges = d.charges }
+first_sized s d = record { q = s.words.q; k = s.first; charges = d.charges }
 
 abbrev pub second_sized : {A : Type 0} → TwoSizes → Weights A → Weights A
-second_sized s d = record { q = s.q; k = s.second; charges = d.charges }
+second_sized s d = record { q = s.words.q; k = s.second; charges = d.charges }
 
 pub listed_weighed : {A : Type 0} (q m : ℕ) (d : List ℕ → A) → DensitySizes q m → Weighed (listed q m d)
 listed_weighed q m d sizes = record { sizes = sizes; each = length-table (q ^ m) (λ c. d (word q m c)) }
+
+-- a label on these words has a charge for each
+pub label_weighed : {A : Type 0} (w : Words) (m : ℕ) → w.m ≡ m → (d : List ℕ → A) → Weighed (listed w.q m d)
+label_weighed w m e d = listed_weighed w.q m d (subst (DensitySizes w.q) e w.sizes)

@@ -1,5 +1,5 @@
 -- What judge and compare answer. Assumes nothing.
-use Rattle.std.specs.Prelude.{ℕ, ◌+◌, ◌-◌, max, List, [], ◌∷◌, length, Some, None, Ok, Option, Result, ◌==◌}
+use Rattle.std.specs.Prelude.{ℕ, ◌+◌, ◌-◌, ◌≤◌, max, List, [], ◌∷◌, length, Some, None, Ok, Option, Result, ◌==◌}
 use Rattle.std.specs.Option.{option_map}
 use Rattle.fault.specs.declared.Stop.TheVariants.{AlphabetsDiffer, TooManyWords}
 use Rattle.fault.specs.Answers.{and_then}
@@ -7,6 +7,7 @@ use Rattle.fault.specs.Checks.{tested}
 use Rattle.fault.specs.Limits.{few_words}
 use Rattle.fault.specs.Refusals.{Refusal}
 use Rattle.charge.specs.Groups.{Kind, Equality}
+use Rattle.automaton.specs.Words.{Letters}
 use Rattle.automaton.specs.Meanings.{Local, Weights, next, total}
 use Rattle.criterion.specs.Answers.{examined, unless_refused}
 use Rattle.criterion.specs.Search.{padding, crossings}
@@ -27,6 +28,10 @@ pub data Judgement (A : Type 0) : Type 0 where
 pub data Comparison (A : Type 0) : Type 0 where
   agree : Comparison A
   differ : Broken A → Comparison A
+
+-- a ring that may be shown: of letters below q, and no longer than a word of 12 letters and 11 zeros
+abbrev pub Ring : ℕ → List ℕ → Type 0
+Ring q c = (1 ≤ length c) × (length c ≤ 23) × Letters q c
 
 -- the totals of the ring that shows a failing word
 abbrev pub broken : {A : Type 0} → (List ℕ → A) → (List ℕ → A) → ℕ × List ℕ → Broken A

@@ -9,7 +9,7 @@ mod sizes;
 mod state;
 mod two_label;
 
-pub use comparing::{Likeness, compare};
+pub use comparing::compare;
 pub use rule_label::RuleLabel;
 pub use state::{Break, Breaking, Draft, Holding, Parts, Refused, Verdict};
 pub use two_label::TwoLabel;

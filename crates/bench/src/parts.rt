@@ -1,10 +1,12 @@
 // Parts of words, by their codes.
-ghost use Rattle.std.specs.Prelude.{◌≡◌, ◌/◌, ◌%◌, ◌^◌, ◌≤◌};
+ghost use Rattle.std.specs.Prelude.{◌≡◌, ◌+◌, ◌/◌, ◌%◌, ◌^◌, ◌≤◌};
+
+use automaton::Words;
 
 // The code of the `count` letters before the last `after` letters of a word.
-pub(crate) fn part_code(q: usize, count: usize, after: usize, code: usize) -> usize
-    requires { (1 ≤ q) × ((q ≤ 8) × ((count ≤ 12) × (after ≤ 12))) }
-    ensures { result ≡ code / (q ^ after) % (q ^ count) }
+pub(crate) fn part_code(words: Words, count: usize, after: usize, code: usize) -> usize
+    requires { count + after ≤ words.m }
+    ensures { result ≡ code / (words.q ^ after) % (words.q ^ count) }
 {
-    code / q.pow(after as u32) % q.pow(count as u32)
+    code / words.q.pow(after as u32) % words.q.pow(count as u32)
 }

@@ -1,42 +1,34 @@
 // The sizes of labels, and the tests that rules and densities are held to before they have one.
-ghost use Rattle.std.specs.Prelude.{◌≡◌, ◌+◌, ◌-◌, ◌^◌, ◌≤◌, max, Ok, Err, MatchResult};
+ghost use Rattle.std.specs.Prelude.{◌≡◌, ◌+◌, ◌-◌, ◌^◌, ◌<◌, ◌≤◌, max, Ok, Err, MatchResult};
 ghost use Rattle.fault.specs.Answers.{plainly, and_then};
 ghost use Rattle.fault.specs.Refusals.{refusal};
-ghost use Rattle.automaton.specs.Meanings.{RuleSizes, DensitySizes};
 ghost use Rattle.bench.specs.Verdicts.{fitting, bench_checked, pair_checked};
 
-use automaton::{Density, Rule};
+use crate::state::Parts;
+use automaton::{Density, Rule, Words};
 use charge::Charge;
 use fault::limits::word_count;
 use fault::{Fault, Stop};
 
-// The sizes of the label of a rule under a density: alphabet, window, reach, width, and the number of its words.
+// The sizes of the label of a rule under a density: its words, the rule's window and reach, and the density's width.
 #[derive(Clone, Copy)]
 pub struct RuleSizes {
-    pub(crate) q: usize,
+    pub(crate) words: Words,
     pub(crate) n: usize,
     pub(crate) l: usize,
     pub(crate) k: usize,
-    pub(crate) words: usize,
-    ghost rule: { RuleSizes q n l },
-    ghost density: { DensitySizes q k },
-    ghost label: { DensitySizes q (n + k - 1) },
-    ghost counted: { words ≡ q ^ (n + k - 1) },
+    ghost reach: { l < n },
+    ghost some: { 1 ≤ k },
+    ghost whole: { words.m ≡ n + k - 1 },
 }
 
-// The sizes of the label of two densities: alphabet, the two widths, the larger of them, and the number of its words.
+// The sizes of the label of two densities: its words, and the two widths.
 #[derive(Clone, Copy)]
 pub struct TwoSizes {
-    pub(crate) q: usize,
+    pub(crate) words: Words,
     pub(crate) first: usize,
     pub(crate) second: usize,
-    pub(crate) m: usize,
-    pub(crate) words: usize,
-    ghost first_density: { DensitySizes q first },
-    ghost second_density: { DensitySizes q second },
-    ghost larger: { m ≡ max first second },
-    ghost label: { DensitySizes q m },
-    ghost counted: { words ≡ q ^ m },
+    ghost larger: { words.m ≡ max first second },
 }
 
 // How many words of m letters two parts of these alphabets have.
@@ -44,56 +36,46 @@ fn common_words(q: usize, other: usize, m: usize) -> Result<usize, Fault>
     requires { (2 ≤ q) × (q ≤ 8) }
     ensures { plainly result ≡ and_then (fitting q other m) (λ _. Ok (q ^ m)) }
 {
-    if q != other {
-        return Err(Fault {
-            stop: Stop::AlphabetsDiffer,
-            place: 0,
-        });
-    }
-    match word_count(q as u64, m as u64) {
-        Some(words) => Ok(words),
-        None => Err(Fault {
-            stop: Stop::TooManyWords,
-            place: 0,
-        }),
+    Stop::AlphabetsDiffer.unless(q == other)?;
+    word_count(q as u64, m as u64).ok_or(Stop::TooManyWords.at(0))
+}
+
+impl RuleSizes {
+    // The sizes of the label of a rule under a density, where they make a bench.
+    pub(crate) fn of<C: Charge, R: Rule, D: Density<C>>(
+        parts: &Parts<R, D>,
+    ) -> Result<RuleSizes, Fault>
+        ensures { MatchResult result (λ s. (bench_checked (R.meaning parts.now.rule) (D.weights C.kind parts.now.density) ≡ Ok tt) × (s.words.q ≡ (R.meaning parts.now.rule).q) × (s.n ≡ (R.meaning parts.now.rule).n) × (s.l ≡ (R.meaning parts.now.rule).l) × (s.k ≡ (D.weights C.kind parts.now.density).k) × (s.words.q ≡ (D.weights C.kind parts.now.density).q)) (λ f. bench_checked (R.meaning parts.now.rule) (D.weights C.kind parts.now.density) ≡ Err (refusal f)) }
+    {
+        let q = parts.rule.q();
+        let n = parts.rule.n();
+        let k = parts.density.k();
+        let m = n + k - 1;
+        let count = common_words(q, parts.density.q(), m)?;
+        Ok(RuleSizes {
+            words: Words { q, m, count },
+            n,
+            l: parts.rule.l(),
+            k,
+        })
     }
 }
 
-// The sizes of the label of a rule under a density, where they make a bench.
-pub(crate) fn rule_sizes<C: Charge, R: Rule, D: Density<C>>(
-    rule: &R,
-    density: &D,
-) -> Result<RuleSizes, Fault>
-    ensures { MatchResult result (λ s. (bench_checked (R.Rule.meaning rule.now) (D.Density.weights C.Charge.kind density.now) ≡ Ok tt) × (s.q ≡ (R.Rule.meaning rule.now).q) × (s.n ≡ (R.Rule.meaning rule.now).n) × (s.l ≡ (R.Rule.meaning rule.now).l) × (s.k ≡ (D.Density.weights C.Charge.kind density.now).k) × (s.q ≡ (D.Density.weights C.Charge.kind density.now).q)) (λ f. bench_checked (R.Rule.meaning rule.now) (D.Density.weights C.Charge.kind density.now) ≡ Err (refusal f)) }
-{
-    let q = rule.q();
-    let n = rule.n();
-    let k = density.k();
-    let words = common_words(q, density.q(), n + k - 1)?;
-    Ok(RuleSizes {
-        q,
-        n,
-        l: rule.l(),
-        k,
-        words,
-    })
-}
-
-// The sizes of the label of two densities, where they can be compared.
-pub(crate) fn two_sizes<C: Charge, D: Density<C>, E: Density<C>>(
-    first: &D,
-    second: &E,
-) -> Result<TwoSizes, Fault>
-    ensures { MatchResult result (λ s. (pair_checked (D.Density.weights C.Charge.kind first.now) (E.Density.weights C.Charge.kind second.now) ≡ Ok tt) × (s.q ≡ (D.Density.weights C.Charge.kind first.now).q) × (s.first ≡ (D.Density.weights C.Charge.kind first.now).k) × (s.second ≡ (E.Density.weights C.Charge.kind second.now).k) × (s.q ≡ (E.Density.weights C.Charge.kind second.now).q)) (λ f. pair_checked (D.Density.weights C.Charge.kind first.now) (E.Density.weights C.Charge.kind second.now) ≡ Err (refusal f)) }
-{
-    let q = first.q();
-    let m = first.k().max(second.k());
-    let words = common_words(q, second.q(), m)?;
-    Ok(TwoSizes {
-        q,
-        first: first.k(),
-        second: second.k(),
-        m,
-        words,
-    })
+impl TwoSizes {
+    // The sizes of the label of two densities, where they can be compared.
+    pub(crate) fn of<C: Charge, D: Density<C>, E: Density<C>>(
+        first: &D,
+        second: &E,
+    ) -> Result<TwoSizes, Fault>
+        ensures { MatchResult result (λ s. (pair_checked (D.weights C.kind first.now) (E.weights C.kind second.now) ≡ Ok tt) × (s.words.q ≡ (D.weights C.kind first.now).q) × (s.first ≡ (D.weights C.kind first.now).k) × (s.second ≡ (E.weights C.kind second.now).k) × (s.words.q ≡ (E.weights C.kind second.now).q)) (λ f. pair_checked (D.weights C.kind first.now) (E.weights C.kind second.now) ≡ Err (refusal f)) }
+    {
+        let q = first.q();
+        let m = first.k().max(second.k());
+        let count = common_words(q, second.q(), m)?;
+        Ok(TwoSizes {
+            words: Words { q, m, count },
+            first: first.k(),
+            second: second.k(),
+        })
+    }
 }

@@ -1,4 +1,6 @@
 // The states of a bench, moved from call to call: drafted, and after its one verdict holding or breaking.
+ghost use Rattle.std.specs.Prelude.{◌≡◌};
+
 use fault::Fault;
 
 // A rule and a density.
@@ -48,4 +50,13 @@ pub enum Verdict<C, R, D> {
 pub struct Refused<S> {
     pub state: S,
     pub fault: Fault,
+}
+
+// What was handed over is let go.
+impl<S: Drop> From<Refused<S>> for Fault {
+    ghost from_gives = { λ refused fault. fault ≡ refused.fault };
+
+    fn from(refused: Refused<S>) -> Fault {
+        refused.fault
+    }
 }

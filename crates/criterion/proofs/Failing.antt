@@ -6,7 +6,7 @@ use Rattle.automaton.specs.Meanings.{Weights, Weighed, weight}
 use Rattle.automaton.proofs.Codes.{length-word, drop-word, code-word}
 use Rattle.criterion.specs.Search.{first_of, J, crossings, fails, failing}
 use Rattle.criterion.proofs.Sizes.{some-letters, one_more, code-within, heads-past}
-use Rattle.criterion.proofs.Fronts.{filled_at}
+use Rattle.criterion.proofs.Fronts.{filled_at, filled-count}
 
 -- the first number below n, from i on, that passes a test
 abbrev first_below : (ℕ → Bool) → ℕ → ℕ → Option ℕ
@@ -49,27 +49,29 @@ module _ {C : Type 0} (K : Kind C) (d : Weights K.group.Carrier) (weighed : Weig
       ∙ drop-word d.q (some-letters d weighed) (d.k - 1) c
 
   -- the test of what stands in a strip of crossings is the test of the word
-  pub fails-at : (E : Equality K.group) (strip : List C) (heads head : ℕ) (front back crosses : C) (same : Bool) →
-      heads ≡ d.q ^ (d.k - 1) → heads ≤ length strip → map K.means (take heads strip) ≡ crossings K 0 d →
-      c / d.q ≡ head → head < heads →
-      front ≡ get_or strip head front → back ≡ get_or strip (c % heads) back →
+  pub fails-at : (E : Equality K.group) (strip : List C) (head : ℕ) (front back crosses : C) (same : Bool) →
+      map K.means strip ≡ crossings K 0 d →
+      c / d.q ≡ head → head < length strip →
+      front ≡ get_or strip head front → back ≡ get_or strip (c % length strip) back →
       K.means crosses ≡ minus K.group (K.means front) (K.means back) →
       Decides same (get_or d.charges c K.group.zero ≡ K.means crosses) →
       not same ≡ fails K E 0 d (word d.q d.k c)
-  fails-at E strip heads head front back crosses same count fits filled is-head below at_front at_back crosses-is same-is =
+  fails-at E strip head front back crosses same filled is-head below at_front at_back crosses-is same-is =
+      let heads = length strip in
+      let count : heads ≡ d.q ^ (d.k - 1) = filled-count K d strip filled in
       let G = K.group in
       let w = word d.q d.k c in
       let at : ℕ → G.Carrier = λ v. J K 0 d (word d.q (d.k - 1) v) in
       let some : 0 < d.q = some-letters d weighed in
       let within : c < d.q ^ d.k =
       code-within d weighed c heads d.q count refl ((div-lt_iff_lt-mul some).0 (subst (λ v. v < heads) (sym is-head) below)) in
-      let all : map K.means (take heads strip) ≡ table heads at = filled ∙ ap (λ n. table n at) (sym count) in
+      let all : map K.means strip ≡ table heads at = filled ∙ ap (λ n. table n at) (sym count) in
       let first : K.means front ≡ J K 0 d (take (d.k - 1) w) =
-      filled_at K.means at strip heads head front fits all below at_front
+      filled_at K.means at strip heads head front all below at_front
       ∙ ap at (sym is-head)
       ∙ ap (J K 0 d) (sym take_head) in
       let last : K.means back ≡ J K 0 d (drop 1 w) =
-      filled_at K.means at strip heads (c % heads) back fits all (mod-lt c (omega arith)) at_back
+      filled_at K.means at strip heads (c % heads) back all (mod-lt c (omega arith)) at_back
       ∙ ap (λ n. at (c % n)) count
       ∙ ap (J K 0 d) (sym drop-first) in
       let of_word : get_or d.charges c G.zero ≡ weight G d w =

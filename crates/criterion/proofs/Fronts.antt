@@ -1,9 +1,9 @@
 -- The crossings by codes, and the strip that they fill. Assumes nothing.
-use Rattle.std.proofs.Common.{◌≡◌, ℕ, zero, suc, ◌+◌, ◌-◌, ◌*◌, ◌/◌, ◌%◌, ◌^◌, ◌<◌, ◌≤◌, List, [], ◌∷◌, ◌++◌, map, length, get_or, take, drop, set, sym, refl, ap, ◌∙◌, subst, ap₂, add-zero, add-suc, mul_comm, div-lt_iff_lt-mul, pow-suc, zero-add, zero-mul, div-one, add-one, arith, length-take-le, take_all, get_or-take, drop-drop, drop-set-lt, pow-add}
-use native.Mathlib.Nat.{sub-zero, pow-zero, div-div-eq-div-mul}
+use Rattle.std.proofs.Common.{◌≡◌, ℕ, zero, suc, ◌+◌, ◌-◌, ◌*◌, ◌/◌, ◌%◌, ◌^◌, ◌<◌, List, [], ◌∷◌, ◌++◌, map, length, get_or, take, drop, set, sym, refl, ap, ◌∙◌, subst, ap₂, add-zero, add-suc, mul_comm, div-lt_iff_lt-mul, pow-suc, zero-add, zero-mul, div-one, add-one, arith, take_all, pow-add}
+use native.Mathlib.Nat.{pow-zero, div-div-eq-div-mul}
 use lib.Seq.{take-append-le}
 use Rattle.std.specs.Int.Digits.{number_from_digits_after}
-use Rattle.std.proofs.lemmas.List.{take_more_set, drop-set, append_assoc, map_push, get_or-map}
+use Rattle.std.proofs.lemmas.List.{take_more_set, drop-set, drop_all, append_assoc, append-nil, map_push, get_or-map, length-map}
 use Rattle.fault.specs.Answers.{front}
 use Rattle.charge.specs.Groups.{Group, Kind, sum}
 use Rattle.charge.proofs.Sums.{sum_more, sum_same, sum_first}
@@ -12,7 +12,6 @@ use Rattle.automaton.specs.Meanings.{Weights, weight}
 use Rattle.automaton.proofs.Codes.{length-word, power-some, code-word}
 use Rattle.automaton.proofs.Rings.{length-table, get_or-table, window-append}
 use Rattle.criterion.specs.Search.{J, crossings}
-use Rattle.criterion.specs.Strips.{FrontMeans}
 
 -- zeros at the front of a word leave its code
 code_zeros : (q n : ℕ) (w : List ℕ) → code q (repeated 0 n ++ w) ≡ code q w
@@ -100,51 +99,27 @@ module _ {C X : Type 0} (means : C → X) (f : ℕ → X) where
       ∙ ap₂ (λ t y. t ++ (y ∷ [])) so_far (is ∙ ap f (sym (zero-add n)))
       ∙ sym (window-append n 1 f 0)
 
-  -- what stands at the front of a filled strip
-  pub filled_at : (strip : List C) (n i : ℕ) (x : C) → n ≤ length strip → map means (take n strip) ≡ table n f →
-      i < n → x ≡ get_or strip i x → means x ≡ f i
-  filled_at strip n i x fits filled h is =
-      ap means (is ∙ sym (get_or-take n strip i x h))
-      ∙ sym (get_or-map means (take n strip) i x (means x) (omega (arith, length-take-le n strip fits)))
+  -- what stands in a filled strip
+  pub filled_at : (strip : List C) (n i : ℕ) (x : C) → map means strip ≡ table n f → i < n → x ≡ get_or strip i x → means x ≡ f i
+  filled_at strip n i x filled h is =
+      let size : length strip ≡ n = sym (length-map strip means) ∙ ap length filled ∙ length-table n f in
+      ap means is
+      ∙ sym (get_or-map means strip i x (means x) (omega arith))
       ∙ ap (λ t. get_or t i (means x)) filled
       ∙ get_or-table n f (means x) i h
 
-pub past_more : {X : Type 0} (strip was : List X) (i : ℕ) (x : X) → drop i strip ≡ drop i was → drop (i + 1) (set strip i x) ≡ drop (i + 1) was
-past_more strip was i x d =
-    let a = drop-set-lt (i + 1) strip i x (omega arith) in
-    let b = drop-drop 1 i strip in
-    let c = drop-drop 1 i was in
-    cc
-
--- all of them are filled
-pub filled-front : {C : Type 0} (K : Kind C) (d : Weights K.group.Carrier) (old new : List C) (n : ℕ) → n ≡ d.q ^ (d.k - 1) →
-    map K.means (take n new) ≡ table n (λ v. J K 0 d (word d.q (d.k - 1) v)) → drop n new ≡ drop n old →
-    FrontMeans K (crossings K 0 d) old new
-filled-front K d old new n all filled past =
-    let at : ℕ → K.group.Carrier = λ v. J K 0 d (word d.q (d.k - 1) v) in
-    let size : length (crossings K 0 d) ≡ n = length-table (d.q ^ (d.k - 1)) at ∙ sym all in (
-      ap (λ t. map K.means (take t new)) size ∙ filled ∙ ap (λ t. table t at) all,
-      ap (λ t. drop t new) size ∙ past ∙ ap (λ t. drop t old) (sym size),
-    )
-
-pub front_filled : {C : Type 0} (K : Kind C) (d : Weights K.group.Carrier) (old new : List C) → FrontMeans K (crossings K 0 d) old new →
-    map K.means (take (d.q ^ (d.k - 1)) new) ≡ crossings K 0 d
-front_filled K d old new means =
-    ap (λ n. map K.means (take n new)) (sym (length-table (d.q ^ (d.k - 1)) (λ v. J K 0 d (word d.q (d.k - 1) v)))) ∙ means.0
+module _ {C : Type 0} (K : Kind C) (d : Weights K.group.Carrier) (strip : List C) (filled : map K.means strip ≡ crossings K 0 d) where
+  -- a filled strip has one charge for each word of m - 1 letters
+  pub filled-count : length strip ≡ d.q ^ (d.k - 1)
+  filled-count = sym (length-map strip K.means) ∙ ap length filled ∙ length-table (d.q ^ (d.k - 1)) (λ v. J K 0 d (word d.q (d.k - 1) v))
 
 -- one more letter of a word, from its last on, in its place
-pub write_more : (q m i rest : ℕ) (strip : List ℕ) → i < m → m ≤ length strip →
-    word q (m - (i + 1)) (rest / q) ++ drop (m - (i + 1)) (set strip (m - 1 - i) (rest % q)) ≡ word q (m - i) rest ++ drop (m - i) strip
-write_more q m i rest strip h fits =
-    let a : ℕ = m - (i + 1) in
-    let place : m - 1 - i ≡ m - (i + 1) = omega arith in
-    let before : suc (m - (i + 1)) ≡ m - i = omega arith in
-    ap (λ n. word q a (rest / q) ++ drop a (set strip n (rest % q))) place
-    ∙ ap (λ t. word q a (rest / q) ++ t) (drop-set strip a (rest % q) (omega arith))
-    ∙ sym (append_assoc (word q a (rest / q)) (rest % q ∷ []) (drop (a + 1) strip))
-    ∙ ap (λ n. word q (suc a) rest ++ drop n strip) (add-one a)
-    ∙ ap (λ n. word q n rest ++ drop n strip) before
+pub write_more : (q n rest : ℕ) (strip : List ℕ) → n < length strip →
+    word q n (rest / q) ++ drop n (set strip n (rest % q)) ≡ word q (n + 1) rest ++ drop (n + 1) strip
+write_more q n rest strip fits =
+    ap (λ t. word q n (rest / q) ++ t) (drop-set strip n (rest % q) fits)
+    ∙ sym (append_assoc (word q n (rest / q)) (rest % q ∷ []) (drop (n + 1) strip))
+    ∙ ap (λ m. word q m rest ++ drop (n + 1) strip) (sym (add-one n))
 
-pub write_none : (q m c : ℕ) (strip : List ℕ) → word q (m - 0) c ++ drop (m - 0) strip ≡ front (word q m c) strip
-write_none q m c strip =
-    ap (λ n. word q n c ++ drop n strip) (sub-zero m) ∙ ap (λ n. word q m c ++ drop n strip) (sym (length-word q m c))
+pub write_none : (w strip : List ℕ) → w ++ drop (length strip) strip ≡ w
+write_none w strip = ap (λ t. w ++ t) (drop_all (length strip) strip (omega arith)) ∙ append-nil w

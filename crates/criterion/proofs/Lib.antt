@@ -1,5 +1,4 @@
 pub mod Criterion
-pub mod Examined
 pub mod Failing
 pub mod Fronts
 pub mod LabelLaw

@@ -14,15 +14,15 @@ pub trait Label<C: Charge> {
 
     // The alphabet size.
     fn q(&self) -> usize
-        ensures { result ≡ (labels C.Charge.kind self.now).q };
+        ensures { result ≡ (labels C.kind self.now).q };
 
     // How many letters a word has.
     fn m(&self) -> usize
-        ensures { result ≡ (labels C.Charge.kind self.now).k };
+        ensures { result ≡ (labels C.kind self.now).k };
 
     // The charge of the word of this code, and zero past the last code.
     fn label(&self, code: usize) -> C
-        ensures { C.Charge.kind.means result ≡ slice_index_or (labels C.Charge.kind self.now).charges code C.Charge.kind.group.zero };
+        ensures { C.kind.means result ≡ slice_index_or (labels C.kind self.now).charges code C.kind.group.zero };
 }
 
 // A label as a density, so that its sum over the windows of a ring is a total.
@@ -32,9 +32,9 @@ pub(crate) struct LabelDensity<'a, L> {
 }
 
 impl<C: Charge, L: Label<C>> Density<C> for LabelDensity<'_, L> {
-    ghost weights = { λ K d. L.Label.labels K d.label.now };
+    ghost weights = { λ K d. L.labels K d.label.now };
 
-    ghost lawful = { λ K d. L.Label.lawful K d.label.now };
+    ghost lawful = { λ K d. L.lawful K d.label.now };
 
     fn q(&self) -> usize {
         self.label.q()

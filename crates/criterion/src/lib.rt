@@ -9,3 +9,4 @@ mod shown;
 
 pub use label::Label;
 pub use search::{Failure, examine};
+pub use shown::MOST_SHOWN;

@@ -1,5 +1,5 @@
 // The search for the first word that fails, over lent strips.
-ghost use Rattle.std.specs.Prelude.{◌≡◌, ◌+◌, ◌-◌, ◌*◌, ◌/◌, ◌%◌, ◌^◌, ◌<◌, ◌≤◌, map, length, take, Decides, slice_index_or};
+ghost use Rattle.std.specs.Prelude.{◌≡◌, ◌+◌, ◌-◌, ◌*◌, ◌/◌, ◌%◌, ◌^◌, ◌<◌, ◌≤◌, map, length, Decides, slice_index_or};
 ghost use Rattle.fault.specs.Answers.{plainly, front};
 ghost use Rattle.automaton.specs.Words.{word};
 ghost use Rattle.criterion.specs.Answers.{seen, counted, examined, crossings_written, ring_written};
@@ -35,41 +35,34 @@ fn code_of(q: usize, heads: usize, head: usize, last: usize) -> usize
 
 // Whether the label of the word of this code is a charge.
 fn labelled<C: Charge, L: Label<C>>(label: &L, code: usize, charge: C) -> bool
-    ensures { Decides result (slice_index_or (L.Label.labels C.Charge.kind label.now).charges code C.Charge.kind.group.zero ≡ C.Charge.kind.means charge) }
+    ensures { Decides result (slice_index_or (L.labels C.kind label.now).charges code C.kind.group.zero ≡ C.kind.means charge) }
 {
     label.label(code).same(charge)
 }
 
 // Whether the word of this code fails, `head` being the code of its first letters.
-fn fails<C: Charge, L: Label<C>>(
-    label: &L,
-    crossings: &[C],
-    heads: usize,
-    head: usize,
-    code: usize,
-) -> bool
-    requires heads { (heads ≡ (L.Label.labels C.Charge.kind label.now).q ^ ((L.Label.labels C.Charge.kind label.now).k - 1)) × (heads ≤ length crossings.now) }
-    requires filled { map C.Charge.kind.means (take heads crossings.now) ≡ crossings_of C.Charge.kind padding (L.Label.labels C.Charge.kind label.now) }
-    requires front { (code / (L.Label.labels C.Charge.kind label.now).q ≡ head) × (head < heads) }
-    ensures { result ≡ fails_at C.Charge.kind C.Charge.equality padding (L.Label.labels C.Charge.kind label.now) (word (L.Label.labels C.Charge.kind label.now).q (L.Label.labels C.Charge.kind label.now).k code) }
+// No struct holds a label with its crossings: a ghost field could say only truncated what two clauses say plainly.
+fn fails<C: Charge, L: Label<C>>(label: &L, crossings: &[C], head: usize, code: usize) -> bool
+    requires filled { map C.kind.means crossings.now ≡ crossings_of C.kind padding (L.labels C.kind label.now) }
+    requires front { (code / (L.labels C.kind label.now).q ≡ head) × (head < length crossings.now) }
+    ensures { result ≡ fails_at C.kind C.equality padding (L.labels C.kind label.now) (word (L.labels C.kind label.now).q (L.labels C.kind label.now).k code) }
 {
-    let crosses = difference(crossings[head], crossings[code % heads]);
+    let crosses = difference(crossings[head], crossings[code % crossings.len()]);
     !labelled(label, code, crosses)
 }
 
-// The smallest code of a word that fails, once the crossings stand at the front of the strip.
+// The smallest code of a word that fails, by the crossings.
 fn first_failing<C: Charge, L: Label<C>>(label: &L, crossings: &[C]) -> Option<usize>
-    requires room { (L.Label.labels C.Charge.kind label.now).q ^ ((L.Label.labels C.Charge.kind label.now).k - 1) ≤ length crossings.now }
-    requires filled { map C.Charge.kind.means (take ((L.Label.labels C.Charge.kind label.now).q ^ ((L.Label.labels C.Charge.kind label.now).k - 1)) crossings.now) ≡ crossings_of C.Charge.kind padding (L.Label.labels C.Charge.kind label.now) }
-    ensures { result ≡ failing C.Charge.kind C.Charge.equality padding (L.Label.labels C.Charge.kind label.now) }
+    requires { map C.kind.means crossings.now ≡ crossings_of C.kind padding (L.labels C.kind label.now) }
+    ensures { result ≡ failing C.kind C.equality padding (L.labels C.kind label.now) }
 {
     let q = label.q();
-    let heads = head_count(label);
+    let heads = crossings.len();
     'search: {
         for head in 0..heads {
             for last in 0..q {
                 let code = code_of(q, heads, head, last);
-                if fails(label, crossings, heads, head, code) {
+                if fails(label, crossings, head, code) {
                     break 'search Some(code);
                 }
             }
@@ -84,15 +77,9 @@ fn check_room<C: Charge, L: Label<C>>(
     crossing_room: usize,
     ring_room: usize,
 ) -> Result<(), Fault>
-    ensures { plainly result ≡ with_room C.Charge.kind padding (L.Label.labels C.Charge.kind label.now) crossing_room ring_room tt }
+    ensures { plainly result ≡ with_room C.kind padding (L.labels C.kind label.now) crossing_room ring_room tt }
 {
-    if crossing_room < head_count(label) || ring_room < 2 * label.m() - 1 {
-        return Err(Fault {
-            stop: Stop::ShortStrip,
-            place: 0,
-        });
-    }
-    Ok(())
+    Stop::ShortStrip.unless(head_count(label) <= crossing_room && 2 * label.m() - 1 <= ring_room)
 }
 
 // Fills the front of a strip with the crossings of a label. If a word fails, answers the one with the smallest code,
@@ -102,12 +89,13 @@ pub fn examine<C: Charge, L: Label<C>>(
     crossings: &mut [C],
     ring: &mut [u8],
 ) -> Result<Option<Failure>, Fault>
-    ensures answer { seen result ≡ counted (examined C.Charge.kind C.Charge.equality padding (L.Label.labels C.Charge.kind label.now) (length crossings.old) (length ring.old)) }
-    ensures crossings { FrontMeans C.Charge.kind (crossings_written C.Charge.kind C.Charge.equality padding (L.Label.labels C.Charge.kind label.now) (length crossings.old) (length ring.old)) crossings.old crossings.new }
-    ensures ring { ring.new ≡ front (ring_written (examined C.Charge.kind C.Charge.equality padding (L.Label.labels C.Charge.kind label.now) (length crossings.old) (length ring.old))) ring.old }
-    ensures law { LabelLaw C.Charge.kind C.Charge.equality padding (L.Label.labels C.Charge.kind label.now) }
+    ensures answer { seen result ≡ counted (examined C.kind C.equality padding (L.labels C.kind label.now) (length crossings.old) (length ring.old)) }
+    ensures crossings { FrontMeans C.kind (crossings_written C.kind C.equality padding (L.labels C.kind label.now) (length crossings.old) (length ring.old)) crossings.old crossings.new }
+    ensures ring { ring.new ≡ front (ring_written (examined C.kind C.equality padding (L.labels C.kind label.now) (length crossings.old) (length ring.old))) ring.old }
+    ensures law { LabelLaw C.kind C.equality padding (L.labels C.kind label.now) }
 {
     check_room(label, crossings.len(), ring.len())?;
+    let crossings = &mut crossings[..head_count(label)];
     fill_crossings(label, crossings);
     let Some(word) = first_failing(label, crossings) else {
         return Ok(None);

@@ -10,16 +10,16 @@ use charge::Charge;
 use fault::Fault;
 
 // The longest ring that is shown: a word of 12 letters and 11 zeros.
-const MOST_SHOWN: usize = 23;
+pub const MOST_SHOWN: usize = 23;
 
-// Writes the m letters of the word of a code to the front of the strip.
-fn write_word(q: usize, m: usize, code: usize, strip: &mut [u8])
-    requires { (1 ≤ q) × ((q ≤ 8) × (m ≤ length strip.old)) }
-    ensures { strip.new ≡ front (word q m code) strip.old }
+// Writes the word of a code, of as many letters as there is room for.
+fn write_word(q: usize, code: usize, letters: &mut [u8])
+    requires { (1 ≤ q) × (q ≤ 8) }
+    ensures { letters.new ≡ word q (length letters.old) code }
 {
     let mut rest = code;
-    for i in 0..m {
-        strip[m - 1 - i] = (rest % q) as u8;
+    for i in (0..letters.len()).rev() {
+        letters[i] = (rest % q) as u8;
         rest /= q;
     }
 }
@@ -27,8 +27,8 @@ fn write_word(q: usize, m: usize, code: usize, strip: &mut [u8])
 // Whether the labels of a ring sum to zero.
 fn sums_to_zero<C: Charge, L: Label<C>>(label: &L, ring: &[u8]) -> Result<bool, Fault>
     requires length { (1 ≤ length ring.now) × (length ring.now ≤ 4096) }
-    requires letters { Letters (L.Label.labels C.Charge.kind label.now).q ring.now }
-    ensures { plainly result ≡ Ok (sums_to_zero C.Charge.kind C.Charge.equality (L.Label.labels C.Charge.kind label.now) ring.now) }
+    requires letters { Letters (L.labels C.kind label.now).q ring.now }
+    ensures { plainly result ≡ Ok (sums_to_zero C.kind C.equality (L.labels C.kind label.now) ring.now) }
 {
     let sum: C = total(&LabelDensity { label }, ring)?;
     Ok(sum.same(C::zero()))
@@ -40,7 +40,7 @@ fn copy_ring(ring: &[u8], strip: &mut [u8]) -> usize
     ensures answer { result ≡ length ring.now }
     ensures strip { strip.new ≡ front ring.now strip.old }
 {
-    strip[0..ring.len()].copy_from_slice(ring);
+    strip[..ring.len()].copy_from_slice(ring);
     ring.len()
 }
 
@@ -49,10 +49,7 @@ fn ring_of<'a>(ring: &'a [u8], zero: bool) -> &'a [u8]
     requires { 1 ≤ length ring.now }
     ensures { result.now ≡ (if zero then take (length ring.now - 1) (drop 1 ring.now) else ring.now) }
 {
-    if zero {
-        return &ring[1..];
-    }
-    ring
+    if zero { &ring[1..] } else { ring }
 }
 
 // Writes the ring that shows that the word of a code fails to the front of the strip, and answers its length.
@@ -61,13 +58,13 @@ pub(crate) fn write_shown<C: Charge, L: Label<C>>(
     code: usize,
     strip: &mut [u8],
 ) -> Result<usize, Fault>
-    requires { 2 * (L.Label.labels C.Charge.kind label.now).k - 1 ≤ length strip.old }
-    ensures answer { plainly result ≡ Ok (length (shown C.Charge.kind C.Charge.equality padding (L.Label.labels C.Charge.kind label.now) (word (L.Label.labels C.Charge.kind label.now).q (L.Label.labels C.Charge.kind label.now).k code))) }
-    ensures strip { strip.new ≡ front (shown C.Charge.kind C.Charge.equality padding (L.Label.labels C.Charge.kind label.now) (word (L.Label.labels C.Charge.kind label.now).q (L.Label.labels C.Charge.kind label.now).k code)) strip.old }
+    requires { 2 * (L.labels C.kind label.now).k - 1 ≤ length strip.old }
+    ensures answer { plainly result ≡ Ok (length (shown C.kind C.equality padding (L.labels C.kind label.now) (word (L.labels C.kind label.now).q (L.labels C.kind label.now).k code))) }
+    ensures strip { strip.new ≡ front (shown C.kind C.equality padding (L.labels C.kind label.now) (word (L.labels C.kind label.now).q (L.labels C.kind label.now).k code)) strip.old }
 {
     let m = label.m();
     let mut cells = [0u8; MOST_SHOWN];
-    write_word(label.q(), m, code, &mut cells);
+    write_word(label.q(), code, &mut cells[..m]);
     let ring = &cells[..2 * m - 1];
     let zero = sums_to_zero(label, ring)?;
     Ok(copy_ring(ring_of(ring, zero), strip))

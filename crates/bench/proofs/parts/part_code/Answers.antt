@@ -4,13 +4,25 @@ use Rattle.automaton.proofs.Codes.{power-some}
 use Rattle.bench.proofs.parts.part_code.Goals as goal
 
 pub pow-requires : goal.pow-requires
-pow-requires c = omega (arith, power_bound c.args.q c.args.after (omega arith) (omega arith))
+pow-requires c =
+    let w = c.args.words in
+    let sizes = w.sizes in
+    omega (arith, power_bound w.q c.args.after sizes.1 (omega arith))
 
 pub nonzero_div-result : goal.nonzero_div-result
-nonzero_div-result c = omega (arith, power-some c.args.q (omega arith) c.args.after)
+nonzero_div-result c =
+    let w = c.args.words in
+    let sizes = w.sizes in
+    omega (arith, power-some w.q (omega arith) c.args.after)
 
 pub pow-requires-2 : goal.pow-requires-2
-pow-requires-2 c = omega (arith, power_bound c.args.q c.args.count (omega arith) (omega arith))
+pow-requires-2 c =
+    let w = c.args.words in
+    let sizes = w.sizes in
+    omega (arith, power_bound w.q c.args.count sizes.1 (omega arith))
 
 pub nonzero_rem-result : goal.nonzero_rem-result
-nonzero_rem-result c = omega (arith, power-some c.args.q (omega arith) c.args.count)
+nonzero_rem-result c =
+    let w = c.args.words in
+    let sizes = w.sizes in
+    omega (arith, power-some w.q (omega arith) c.args.count)

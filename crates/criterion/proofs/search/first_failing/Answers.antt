@@ -1,5 +1,6 @@
-use Rattle.std.proofs.Common.{arith}
+use Rattle.std.proofs.Common.{length, arith}
 use Rattle.criterion.proofs.Sizes.{heads-few}
+use Rattle.criterion.proofs.Fronts.{filled-count}
 use Rattle.criterion.proofs.Failing.{search_more, search-stop, search_end}
 use Rattle.criterion.proofs.search.first_failing.Goals as goal
 
@@ -8,7 +9,7 @@ code_of-code-requires g c =
     let K = g.C.Charge.kind in
     let d = g.L.Label.labels K c.args.label.now in
     let weighed = g.L.Label.lawful K c.args.label.now in
-    record { small = (omega (arith, weighed.sizes.1), omega (arith, heads-few d weighed)); within = (c.loop-head-test.true, c.loop-last-test.true) }
+    record { small = (omega (arith, weighed.sizes.1), omega (arith, heads-few d weighed, filled-count K d c.args.crossings.now c.requires)); within = (c.loop-head-test.true, c.loop-last-test.true) }
 
 pub loop-last-preserved : goal.loop-last-preserved
 loop-last-preserved g c =
@@ -16,8 +17,8 @@ loop-last-preserved g c =
     let E = g.C.Charge.equality in
     let label = c.args.label.now in
     search_more K E (g.L.Label.labels K label) (g.L.Label.lawful K label)
-    c.head_count-heads.result c.q-q.result c.loop-head.head c.loop-last.last c.code_of-code.result c.fails.result
-    c.head_count-heads.ensures c.q-q.ensures c.code_of-code.ensures.is c.code_of-code.ensures.below c.loop-last.invariant c.fails.ensures
+    (length c.args.crossings.now) c.q-q.result c.loop-head.head c.loop-last.last c.code_of-code.result c.fails.result
+    (filled-count K (g.L.Label.labels K label) c.args.crossings.now c.requires) c.q-q.ensures c.code_of-code.ensures.is c.code_of-code.ensures.below c.loop-last.invariant c.fails.ensures
     c.if-fails.false
 
 pub returns-then-fails : goal.returns-then-fails
@@ -26,8 +27,8 @@ returns-then-fails g c =
     let E = g.C.Charge.equality in
     let label = c.args.label.now in
     search-stop K E (g.L.Label.labels K label) (g.L.Label.lawful K label)
-    c.head_count-heads.result c.q-q.result c.loop-head.head c.loop-last.last c.code_of-code.result c.fails.result
-    c.head_count-heads.ensures c.q-q.ensures c.code_of-code.ensures.is c.code_of-code.ensures.below c.loop-last.invariant c.fails.ensures
+    (length c.args.crossings.now) c.q-q.result c.loop-head.head c.loop-last.last c.code_of-code.result c.fails.result
+    (filled-count K (g.L.Label.labels K label) c.args.crossings.now c.requires) c.q-q.ensures c.code_of-code.ensures.is c.code_of-code.ensures.below c.loop-last.invariant c.fails.ensures
     c.if-fails.true
 
 pub returns-after-loop-head : goal.returns-after-loop-head
@@ -35,4 +36,4 @@ returns-after-loop-head g c =
     let K = g.C.Charge.kind in
     let E = g.C.Charge.equality in
     let label = c.args.label.now in
-    search_end K E (g.L.Label.labels K label) (g.L.Label.lawful K label) c.loop-head.head (omega arith) c.loop-head.invariant
+    search_end K E (g.L.Label.labels K label) (g.L.Label.lawful K label) c.loop-head.head (omega (arith, filled-count K (g.L.Label.labels K label) c.args.crossings.now c.requires)) c.loop-head.invariant

@@ -1,32 +1,34 @@
-use Rattle.std.proofs.Common.{ℕ, ◌^◌, ◌<◌, sym, ap, ◌∙◌, subst, arith}
+use Rattle.std.proofs.Common.{ℕ, take, sym, ap, ap₂, ◌∙◌, arith}
 use Rattle.fault.specs.declared.Stop.TheVariants.{BadLetter}
 use Rattle.automaton.specs.Words.{code}
-use Rattle.automaton.specs.Making.{done, pattern_density}
+use Rattle.automaton.specs.Making.{pattern_density}
 use Rattle.automaton.proofs.Codes.{code_lt}
-use Rattle.automaton.proofs.Passes.{pattern_passes, taken-letters, taken-front}
+use Rattle.automaton.proofs.Passes.{taken-letters, taken-front}
 use Rattle.automaton.proofs.Windows.{window-whole}
 use Rattle.automaton.proofs.pattern.PatternDensity.fill.Goals as goal
 
-pub window_code-pattern-requires : goal.window_code-pattern-requires
-window_code-pattern-requires g c =
-    let p = pattern_passes g.C.Charge.kind c.args.q c.args.k c.args.word.now _ c.args.charge (sym c.in_ok-letters.ensures) in
-    let t = taken-letters c.args.q c.args.k c.args.word.now _ p.1 in
-    record { sizes = (omega (arith, p.0.2, t.0), (p.0.1, (p.0.3, omega arith))); letters = t.1 }
+pub invariant_of-ring : goal.invariant_of-ring
+invariant_of-ring g c =
+    let w = c.in_ok-words.words in
+    let sizes = w.sizes in
+    let t = taken-letters w.q w.m c.args.word.now _ (sym c.in_ok-letters.ensures) in
+    record { few = sizes.1; some = omega (arith, sizes.2, t.0); most = omega (arith, sizes.3, t.0); letters = t.1 }
 
 pub invariant_of-self : goal.invariant_of-self
 invariant_of-self g c =
-    let p = pattern_passes g.C.Charge.kind c.args.q c.args.k c.args.word.now _ c.args.charge (sym c.in_ok-letters.ensures) in
-    let t = taken-letters c.args.q c.args.k c.args.word.now _ p.1 in
-    let e = c.window_code-pattern.ensures ∙ ap (code c.args.q) (window-whole c.args.k _ t.0) in
-    record { sizes = p.0; within = subst (λ (n : ℕ). n < c.args.q ^ c.args.k) (sym e) (code_lt c.args.q c.args.k _ t) }
+    let w = c.in_ok-words.words in
+    let counted = w.counted in
+    let t = taken-letters w.q w.m c.args.word.now _ (sym c.in_ok-letters.ensures) in
+    let e = c.window_code-pattern.ensures ∙ ap (code w.q) (window-whole w.m _ t.0) in
+    record { within = omega (arith, e, code_lt w.q w.m _ t, counted) }
 
-pub returns : goal.returns
-returns g c =
+pub returns-clause-density : goal.returns-clause-density
+returns-clause-density g c =
+    let w = c.in_ok-words.words in
+    let made = c.in_ok-words.ensures in
+    let K = g.C.Charge.kind in
     let e = sym c.in_ok-letters.ensures in
-    let p = pattern_passes g.C.Charge.kind c.args.q c.args.k c.args.word.now _ c.args.charge e in
-    let t = taken-letters c.args.q c.args.k c.args.word.now _ p.1 in
-    record {
-      answer = sym (ap done e);
-      density = ap (λ (w : ℕ). pattern_density g.C.Charge.kind c.args.q c.args.k w c.args.charge)
-          (c.window_code-pattern.ensures ∙ ap (code c.args.q) (window-whole c.args.k _ t.0 ∙ (taken-front _ BadLetter _ c.args.word.now _ p.1).1));
-    }
+    let t = taken-letters w.q w.m c.args.word.now _ e in
+    ap (λ (pattern : ℕ). pattern_density K w.q w.m pattern c.args.charge)
+    (c.window_code-pattern.ensures ∙ ap (code w.q) (window-whole w.m _ t.0 ∙ (taken-front _ BadLetter _ c.args.word.now _ e).1))
+    ∙ ap₂ (λ (q k : ℕ). pattern_density K q k (code q (take k c.args.word.now)) c.args.charge) made.1 made.2

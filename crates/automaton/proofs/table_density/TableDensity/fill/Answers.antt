@@ -1,16 +1,15 @@
-use Rattle.std.proofs.Common.{sym, ap}
+use Rattle.std.proofs.Common.{ℕ, take, sym, ap, ap₂, ◌∙◌}
 use Rattle.fault.specs.declared.Stop.TheVariants.{BadEntry}
-use Rattle.automaton.specs.Making.{done}
-use Rattle.automaton.proofs.Passes.{density_passes, taken-front}
+use Rattle.automaton.specs.Making.{table_density}
+use Rattle.automaton.proofs.Passes.{taken-front}
 use Rattle.automaton.proofs.Lookups.{table_density-front}
 use Rattle.automaton.proofs.table_density.TableDensity.fill.Goals as goal
 
-pub returns : goal.returns
-returns g c =
+pub returns-clause-density : goal.returns-clause-density
+returns-clause-density g c =
+    let w = c.in_ok-words.words in
+    let made = c.in_ok-words.ensures in
     let K = g.C.Charge.kind in
-    let e = sym c.in_ok-entries.ensures in
-    let p = density_passes K c.args.q c.args.k c.args.entries.now _ e in
-    record {
-      answer = sym (ap done e);
-      density = table_density-front K c.args.q c.args.k c.args.entries.now _ (taken-front _ BadEntry _ c.args.entries.now _ p.1).1;
-    }
+    let front = (taken-front _ BadEntry _ c.args.entries.now _ (sym c.in_ok-entries.ensures)).1 in
+    table_density-front K w.q w.m c.args.entries.now _ (front ∙ ap (λ (n : ℕ). take n c.args.entries.now) w.counted)
+    ∙ ap₂ (λ (q k : ℕ). table_density K q k c.args.entries.now) made.1 made.2

@@ -1,25 +1,25 @@
-use Rattle.std.proofs.Common.{◌+◌, ◌-◌, sym, refl, ◌∙◌, arith}
+use Rattle.std.proofs.Common.{◌+◌, ◌-◌, ◌^◌, ◌<◌, ◌≤◌, sym, refl, ◌∙◌, subst, arith}
 use Rattle.bench.specs.Labels.{rule_label}
 use Rattle.bench.specs.Sized.{sized_rule, sized_density}
 use Rattle.bench.proofs.Coded.{listed-past, rule-entry}
 use Rattle.bench.proofs.rule_label.RuleLabelLabel.label.Goals as goal
 
-pub returns-then-code-self : goal.returns-then-code-self
-returns-then-code-self g c =
+pub returns-then-code-words : goal.returns-then-code-words
+returns-then-code-words g c =
     let K = g.C.Charge.kind in
     let t = c.args.self.now in
     let s = t.sizes in
-    let counted = s.counted in
+    let counted = s.words.counted in
     c.zero.ensures
-    ∙ sym (listed-past K.group.zero s.q (s.n + s.k - 1)
-    (rule_label K.group (sized_rule s (g.R.Rule.meaning t.rule.now)) (sized_density s (g.D.Density.weights K t.density.now))) c.args.code (omega arith))
+    ∙ sym (listed-past K.group.zero s.words.q (s.n + s.k - 1)
+    (rule_label K.group (sized_rule s (g.R.Rule.meaning t.parts.now.rule)) (sized_density s (g.D.Density.weights K t.parts.now.density))) c.args.code (subst (λ m. s.words.q ^ m ≤ c.args.code) s.whole (omega arith)))
 
 pub returns : goal.returns
 returns g c =
     let K = g.C.Charge.kind in
     let t = c.args.self.now in
     let s = t.sizes in
-    let rule = s.rule in
-    let counted = s.counted in
-    rule-entry K.group (sized_rule s (g.R.Rule.meaning t.rule.now)) (sized_density s (g.D.Density.weights K t.density.now)) c.args.code _ _ _ _ _ (omega arith) refl (omega arith) (omega arith)
+    let reach = s.reach in
+    let few = s.words.sizes in
+    rule-entry K.group (sized_rule s (g.R.Rule.meaning t.parts.now.rule)) (sized_density s (g.D.Density.weights K t.parts.now.density)) c.args.code _ _ _ _ _ (omega arith) refl reach (subst (λ m. c.args.code < s.words.q ^ m) s.whole (omega (arith, s.words.counted)))
     c.next_code.ensures c.part_code.ensures c.charge-later.ensures c.charge-now.ensures c.difference.ensures

@@ -4,14 +4,14 @@ use Rattle.bench.specs.Sized.{first_sized, second_sized}
 use Rattle.bench.proofs.Coded.{listed-past, two-entry}
 use Rattle.bench.proofs.two_label.TwoLabelLabel.label.Goals as goal
 
-pub returns-then-code-self : goal.returns-then-code-self
-returns-then-code-self g c =
+pub returns-then-code-words : goal.returns-then-code-words
+returns-then-code-words g c =
     let K = g.C.Charge.kind in
     let t = c.args.self.now in
     let s = t.sizes in
-    let counted = s.counted in
+    let counted = s.words.counted in
     c.zero.ensures
-    ∙ sym (listed-past K.group.zero s.q s.m
+    ∙ sym (listed-past K.group.zero s.words.q s.words.m
     (two_label K.group (first_sized s (g.D.Density.weights K t.first.now)) (second_sized s (g.E.Density.weights K t.second.now))) c.args.code (omega arith))
 
 pub returns : goal.returns
@@ -19,7 +19,7 @@ returns g c =
     let K = g.C.Charge.kind in
     let t = c.args.self.now in
     let s = t.sizes in
-    let label = s.label in
-    let counted = s.counted in
-    two-entry K.group (first_sized s (g.D.Density.weights K t.first.now)) (second_sized s (g.E.Density.weights K t.second.now)) c.args.code s.m _ _ _ _ _ (omega arith) refl s.larger (omega arith)
+    let few = s.words.sizes in
+    let counted = s.words.counted in
+    two-entry K.group (first_sized s (g.D.Density.weights K t.first.now)) (second_sized s (g.E.Density.weights K t.second.now)) c.args.code s.words.m _ _ _ _ _ (omega arith) refl s.larger (omega arith)
     refl refl c.front_charge-weighed.ensures c.front_charge.ensures c.difference.ensures
