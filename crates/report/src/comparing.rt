@@ -10,8 +10,9 @@ use crate::line::{Line, Question, Shape};
 use crate::load::{charges_of, load, zeros_of};
 use crate::loaded::Loaded;
 use crate::texts::{kinds_line, refused_line, two_names, verdict_line};
-use crate::verdict::{CROSSING_ROOM, RING_ROOM, sent_found};
+use crate::verdict::{CROSSING_ROOM, sent_found};
 use charge::{Both, Channels, ChargeKind, Pitch, Voices};
+use criterion::MOST_SHOWN;
 use preset::{Entry, Header, STRIP, Sent};
 use std::alloc::{AllocError, Global};
 
@@ -66,7 +67,7 @@ fn compare_charges<C: Sent>(
     let charges = charges_of::<C>(heap, first.entries)?;
     let others = charges_of::<C>(heap, second.entries)?;
     let mut crossings = zeros_of::<C>(heap, CROSSING_ROOM)?;
-    let mut ring = [0u8; RING_ROOM];
+    let mut ring = [0u8; MOST_SHOWN];
     compare_on(
         heap,
         subject,

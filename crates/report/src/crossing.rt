@@ -13,9 +13,10 @@ use crate::line::{Line, Shape};
 use crate::load::{charges_of, load, zeros_of};
 use crate::loaded::Loaded;
 use crate::rows::rows_text;
-use crate::verdict::{CROSSING_ROOM, RING_ROOM};
+use crate::verdict::CROSSING_ROOM;
 use bench::Break;
 use charge::{Both, Channels, ChargeKind, Pitch, Voices};
+use criterion::MOST_SHOWN;
 use fault::Fault;
 use fault::limits::word_count;
 use preset::{Entry, Header, STRIP, Sent};
@@ -106,7 +107,7 @@ fn cross_charges<C: Sent>(
 {
     let charges = charges_of::<C>(heap, preset.entries)?;
     let mut crossings = zeros_of::<C>(heap, CROSSING_ROOM)?;
-    let mut ring = [0u8; RING_ROOM];
+    let mut ring = [0u8; MOST_SHOWN];
     cross_on(heap, preset, &charges, &mut crossings, &mut ring)
 }
 

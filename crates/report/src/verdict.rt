@@ -11,14 +11,13 @@ use crate::loaded::Loaded;
 use crate::texts::verdict_line;
 use bench::Break;
 use charge::{Both, Channels, ChargeKind, Pitch, Voices};
+use criterion::MOST_SHOWN;
 use fault::Fault;
 use preset::{Header, Sent};
 use std::alloc::{AllocError, Global};
 
-// How many crossings and cells the strips have room for: enough for every preset.
+// How many crossings the strip has room for: enough for every preset.
 pub(crate) const CROSSING_ROOM: usize = 4096;
-
-pub(crate) const RING_ROOM: usize = 23;
 
 // A break with its totals as entries.
 fn sent_break<C: Sent>(found: Break<C>) -> Finding
@@ -81,7 +80,7 @@ fn judge_charges<C: Sent>(heap: Global, name: &str, preset: Loaded<'_>) -> Resul
 {
     let charges = charges_of::<C>(heap, preset.entries)?;
     let mut crossings = zeros_of::<C>(heap, CROSSING_ROOM)?;
-    let mut ring = [0u8; RING_ROOM];
+    let mut ring = [0u8; MOST_SHOWN];
     judge_on(heap, name, preset, &charges, &mut crossings, &mut ring)
 }
 
