@@ -1,6 +1,6 @@
 // Benches judged and densities compared.
 use automaton::{Density, PatternDensity, Rule, SumRule, TableDensity, TableRule};
-use bench::{Draft, Likeness, Verdict, compare};
+use bench::{Draft, Verdict, compare};
 use charge::{Channels, Charge, Pitch, Voices};
 use fault::Fault;
 
@@ -185,8 +185,8 @@ fn compared(first: [u8; 2], second: [u8; 2], crossings: &mut [Voices], ring: &mu
             Err(fault) => refused(fault),
             Ok(()) => match compare(&one, &other, crossings, ring) {
                 Err(fault) => refused(fault),
-                Ok(Likeness::Agree) => (1, 0, 0),
-                Ok(Likeness::Differ(found)) => (2, found.word, found.len),
+                Ok(None) => (1, 0, 0),
+                Ok(Some(found)) => (2, found.word, found.len),
             },
         },
     }

@@ -6,7 +6,7 @@ use crate::rings::{next_case, total_case};
 use crate::show::write_fault;
 use crate::totals::{Rooms, new_strips};
 use automaton::{Density, PatternDensity, Rule, SumRule, TableDensity, TableRule};
-use bench::{Draft, Likeness, Verdict, compare};
+use bench::{Draft, Verdict, compare};
 use charge::{Both, Channels, Pitch, Voices};
 use std::alloc::Global;
 use std::io;
@@ -88,8 +88,8 @@ fn compare_parts<C: Printed, D: Density<C>, E: Density<C>, W: Write>(
     let mut strips = new_strips::<C>(alloc, rooms, first.q(), first.k().max(second.k()))?;
     match compare(first, second, &mut strips.crossings, &mut strips.ring) {
         Err(fault) => write_fault(out, "refused", fault),
-        Ok(Likeness::Agree) => strips.write_none(out, "agree"),
-        Ok(Likeness::Differ(found)) => strips.write_break(out, "differ", found),
+        Ok(None) => strips.write_none(out, "agree"),
+        Ok(Some(found)) => strips.write_break(out, "differ", found),
     }
 }
 

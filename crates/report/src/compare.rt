@@ -1,29 +1,12 @@
 // The densities of two presets that were read, compared.
 ghost use Rattle.std.specs.Prelude.{length};
-ghost use Rattle.bench.specs.Verdicts.{compare_found};
 ghost use Rattle.report.specs.Finds.{CompareFinds, preset_density, pair_found};
 
-use automaton::{Density, TableDensity};
-use bench::{Break, Likeness, compare};
+use automaton::TableDensity;
+use bench::{Break, compare};
 use charge::Charge;
 use fault::Fault;
 use preset::Header;
-
-// Compares two densities.
-fn compare_parts<C: Charge, D: Density<C>, E: Density<C>>(
-    first: &D,
-    second: &E,
-    crossings: &mut [C],
-    ring: &mut [u8],
-) -> Result<Option<Break<C>>, Fault>
-    ensures { CompareFinds C.Charge.kind (D.Density.weights C.Charge.kind first.now) (E.Density.weights C.Charge.kind second.now) (compare_found C.Charge.kind C.Charge.equality (length crossings.old) (length ring.old) (D.Density.weights C.Charge.kind first.now) (E.Density.weights C.Charge.kind second.now)) crossings.old crossings.new ring.old ring.new result }
-{
-    match compare(first, second, crossings, ring) {
-        Ok(Likeness::Agree) => Ok(None),
-        Ok(Likeness::Differ(found)) => Ok(Some(found)),
-        Err(fault) => Err(fault),
-    }
-}
 
 // Compares the densities of two headers and two tables of charges.
 pub(crate) fn compare_tables<C: Charge>(
@@ -40,5 +23,5 @@ pub(crate) fn compare_tables<C: Charge>(
     density.fill(first.q, first.k, charges)?;
     let mut other = TableDensity::zero();
     other.fill(second.q, second.k, others)?;
-    compare_parts(&density, &other, crossings, ring)
+    compare(&density, &other, crossings, ring)
 }

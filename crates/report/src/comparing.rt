@@ -9,8 +9,9 @@ use crate::charges::charges_of;
 use crate::compare::compare_tables;
 use crate::line::{Line, Question, Shape};
 use crate::texts::{Asked, kinds_line, refused_line};
-use crate::verdict::{CROSSING_ROOM, RING_ROOM, sent_found};
+use crate::verdict::{CROSSING_ROOM, sent_found};
 use charge::{Both, Channels, ChargeKind, Pitch, Voices};
+use criterion::MOST_SHOWN;
 use preset::{Loaded, Sent, Strips};
 use std::alloc::{AllocError, Global};
 
@@ -39,7 +40,7 @@ fn compare_charges<C: Sent>(
     let charges = charges_of::<C>(alloc, first.entries)?;
     let others = charges_of::<C>(alloc, second.entries)?;
     let mut crossings = vec![in alloc; C::zero(); CROSSING_ROOM]?;
-    let mut ring = [0u8; RING_ROOM];
+    let mut ring = [0u8; MOST_SHOWN];
     let found = compare_tables(
         first.header,
         &charges,

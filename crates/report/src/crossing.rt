@@ -11,10 +11,11 @@ use crate::charges::charges_of;
 use crate::judge::judge_tables;
 use crate::line::{Line, Shape};
 use crate::rows::rows_text;
-use crate::verdict::{CROSSING_ROOM, RING_ROOM};
+use crate::verdict::CROSSING_ROOM;
 use bench::Break;
 use charge::{Both, Channels, ChargeKind, Pitch, Voices};
 use console::ShowError;
+use criterion::MOST_SHOWN;
 use preset::{Loaded, Sent, Strips};
 use std::alloc::{AllocError, Global};
 
@@ -56,7 +57,7 @@ fn cross_charges<C: Sent>(alloc: Global, preset: Loaded<'_>) -> Result<Line, Sho
     let charges = charges_of::<C>(alloc, preset.entries)?;
     let mut strip = vec![in alloc; C::zero(); CROSSING_ROOM]?;
     let crossings = strip.as_mut_slice();
-    let mut ring = [0u8; RING_ROOM];
+    let mut ring = [0u8; MOST_SHOWN];
     let found = judge_tables(preset, &charges, crossings, &mut ring)?;
     Ok(page_line(alloc, crossing_shape(preset), crossings, found)?)
 }

@@ -28,14 +28,8 @@ fn judge_parts<C: Charge, R: Rule + Drop, D: Density<C> + Drop>(
 ) -> Result<Option<Break<C>>, Fault>
     ensures { JudgeFinds C.Charge.kind (R.Rule.meaning rule) (D.Density.weights C.Charge.kind density) (judge_found C.Charge.kind C.Charge.equality (length crossings.old) (length ring.old) (R.Rule.meaning rule) (D.Density.weights C.Charge.kind density)) crossings.old crossings.new ring.old ring.new result }
 {
-    let draft = match Draft::new::<C>(rule, density) {
-        Ok(draft) => draft,
-        Err(refused) => return Err(refused.fault),
-    };
-    match draft.judge(crossings, ring) {
-        Ok(verdict) => Ok(break_of(verdict)),
-        Err(refused) => Err(refused.fault),
-    }
+    let verdict = Draft::new::<C>(rule, density)?.judge(crossings, ring)?;
+    Ok(break_of(verdict))
 }
 
 // Judges the rule of a preset under its density.

@@ -10,14 +10,13 @@ use crate::line::{Finding, Line, Question, Shape};
 use crate::texts::Asked;
 use bench::Break;
 use charge::{Both, Channels, ChargeKind, Pitch, Voices};
+use criterion::MOST_SHOWN;
 use fault::Fault;
 use preset::{Loaded, Sent};
 use std::alloc::{AllocError, Global};
 
-// How many crossings and cells the strips have room for: enough for every preset.
+// How many crossings a strip has room for: enough for every preset.
 pub(crate) const CROSSING_ROOM: usize = 4096;
-
-pub(crate) const RING_ROOM: usize = 23;
 
 // A break with its totals as entries.
 fn sent_break<C: Sent>(found: Break<C>) -> Finding
@@ -59,7 +58,7 @@ fn judge_charges<C: Sent>(alloc: Global, name: &str, preset: Loaded<'_>) -> Resu
 {
     let charges = charges_of::<C>(alloc, preset.entries)?;
     let mut crossings = vec![in alloc; C::zero(); CROSSING_ROOM]?;
-    let mut ring = [0u8; RING_ROOM];
+    let mut ring = [0u8; MOST_SHOWN];
     let found = judge_tables(preset, &charges, &mut crossings, &mut ring);
     let asked = Asked {
         question: Question::Judge,
