@@ -20,7 +20,7 @@ use std::alloc::Global;
 
 // The item that a word of a line writes.
 fn read_item<T: Item>(kind: ChargeKind, line: usize, word: &[u8]) -> Result<T, TextError>
-    ensures { result ≡ ok_or (T.Item.form.reads kind word.now) (Wrong line T.Item.form.expected) }
+    ensures { result ≡ ok_or (T.form.reads kind word.now) (Wrong line T.form.expected) }
 {
     match T::from_word(kind, word) {
         Some(item) => Ok(item),
@@ -38,7 +38,7 @@ fn read_items<T: Item>(
     line: usize,
     words: Words<'_>,
 ) -> Result<Vec<T>, TextError>
-    ensures { Told (read vec_items result) (each (T.Item.form.reads kind) T.Item.form.expected line (words_left words.entry)) }
+    ensures { Told (read vec_items result) (each (T.form.reads kind) T.form.expected line (words_left words.entry)) }
 {
     let mut items = Vec::new(alloc);
     for word in words {

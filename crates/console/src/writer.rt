@@ -11,7 +11,7 @@ use std::alloc::{AllocError, Global};
 
 // The items of a row, a space before each.
 fn row_text<T: Item>(alloc: Global, kind: ChargeKind, items: &[T]) -> Result<String, AllocError>
-    ensures { IfOk result (λ s. string_bytes s ≡ spaced (T.Item.form.shows kind) items.now) }
+    ensures { IfOk result (λ s. string_bytes s ≡ spaced (T.form.shows kind) items.now) }
 {
     let mut row = String::new(alloc);
     for item in items {

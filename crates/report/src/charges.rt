@@ -8,8 +8,8 @@ use std::alloc::{AllocError, Global};
 
 // The charge that is sent as an entry, which the kind allows.
 fn charge_of<C: Sent>(entry: Entry) -> C
-    requires { fits C.Sent.sending.named entry ≡ true }
-    ensures { C.Sent.sending.entry result ≡ entry }
+    requires { fits C.sending.named entry ≡ true }
+    ensures { C.sending.entry result ≡ entry }
 {
     let Some(charge) = C::from_entry(entry) else {
         unreachable()
@@ -19,8 +19,8 @@ fn charge_of<C: Sent>(entry: Entry) -> C
 
 // The charges that are sent as entries, all of which the kind allows.
 pub(crate) fn charges_of<C: Sent>(alloc: Global, entries: &[Entry]) -> Result<Vec<C>, AllocError>
-    requires { AllByRecursion (λ e. fits C.Sent.sending.named e ≡ true) entries.now }
-    ensures { IfOk result (λ v. map C.Sent.sending.entry v.items ≡ entries.now) }
+    requires { AllByRecursion (λ e. fits C.sending.named e ≡ true) entries.now }
+    ensures { IfOk result (λ v. map C.sending.entry v.items ≡ entries.now) }
 {
     let mut charges = Vec::new(alloc);
     for entry in entries {

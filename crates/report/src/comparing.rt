@@ -33,9 +33,9 @@ fn compare_charges<C: Sent>(
     first: Loaded<'_>,
     second: Loaded<'_>,
 ) -> Result<Line, AllocError>
-    requires first { first.kind ≡ C.Sent.sending.named }
-    requires second { second.kind ≡ C.Sent.sending.named }
-    ensures { IfOk result (CompareLine C.Charge.kind C.Charge.equality C.Sent.sending subject.now first.entry.header first.entry.entries.now second.entry.header second.entry.entries.now) }
+    requires first { first.kind ≡ C.sending.named }
+    requires second { second.kind ≡ C.sending.named }
+    ensures { IfOk result (CompareLine C.kind C.equality C.sending subject.now first.entry.header first.entry.entries.now second.entry.header second.entry.entries.now) }
 {
     let charges = charges_of::<C>(alloc, first.entries)?;
     let others = charges_of::<C>(alloc, second.entries)?;

@@ -39,7 +39,7 @@ fn page_line<C: Sent>(
     found: Option<Break<C>>,
 ) -> Result<Line, AllocError>
     requires { (shape.m ≤ 22) × (shape.q ^ shape.m ≤ 4096) × (shape.q ^ shape.m ≤ length strip.now) }
-    ensures { IfOk result (LineIs (rows_text (λ i x. row_text (shape_of shape) i (C.Sent.sending.entry x)) 0 (take (shape.q ^ shape.m) strip.now)) (answer_good found)) }
+    ensures { IfOk result (LineIs (rows_text (λ i x. row_text (shape_of shape) i (C.sending.entry x)) 0 (take (shape.q ^ shape.m) strip.now)) (answer_good found)) }
 {
     let count = shape.q.pow(shape.m as u32) as usize;
     let text = rows_text(alloc, shape, &strip[..count])?;
@@ -51,8 +51,8 @@ fn page_line<C: Sent>(
 
 // The page of a preset of one kind.
 fn cross_charges<C: Sent>(alloc: Global, preset: Loaded<'_>) -> Result<Line, ShowError>
-    requires { preset.kind ≡ C.Sent.sending.named }
-    ensures { IfSome (unless_memory result) (CrossingsPage C.Charge.kind C.Charge.equality C.Sent.sending preset.entry.header preset.entry.letters.now preset.entry.entries.now) }
+    requires { preset.kind ≡ C.sending.named }
+    ensures { IfSome (unless_memory result) (CrossingsPage C.kind C.equality C.sending preset.entry.header preset.entry.letters.now preset.entry.entries.now) }
 {
     let charges = charges_of::<C>(alloc, preset.entries)?;
     let mut strip = vec![in alloc; C::zero(); CROSSING_ROOM]?;

@@ -21,7 +21,7 @@ pub(crate) fn rows_text<C: Sent>(
     shape: Shape,
     crossings: &[C],
 ) -> Result<String, AllocError>
-    ensures { IfOk result (λ s. string_bytes s ≡ rows_text (λ i x. row_text (shape_of shape) i (C.Sent.sending.entry x)) 0 crossings.now) }
+    ensures { IfOk result (λ s. string_bytes s ≡ rows_text (λ i x. row_text (shape_of shape) i (C.sending.entry x)) 0 crossings.now) }
 {
     let mut text = String::new(alloc);
     for (code, charge) in crossings.iter().enumerate() {

@@ -20,7 +20,7 @@ pub(crate) const CROSSING_ROOM: usize = 4096;
 
 // A break with its totals as entries.
 fn sent_break<C: Sent>(found: Break<C>) -> Finding
-    ensures { result ≡ sent_break C.Sent.sending found }
+    ensures { result ≡ sent_break C.sending found }
 {
     Finding {
         word: found.word,
@@ -34,7 +34,7 @@ fn sent_break<C: Sent>(found: Break<C>) -> Finding
 pub(crate) fn sent_found<C: Sent>(
     found: Result<Option<Break<C>>, Fault>,
 ) -> Result<Option<Finding>, Fault>
-    ensures { result ≡ sent_found C.Sent.sending found }
+    ensures { result ≡ sent_found C.sending found }
 {
     found.map(|found| found.map(sent_break))
 }
@@ -53,8 +53,8 @@ fn judge_shape(preset: Loaded<'_>) -> Shape
 
 // The line of a preset of one kind.
 fn judge_charges<C: Sent>(alloc: Global, name: &str, preset: Loaded<'_>) -> Result<Line, AllocError>
-    requires { preset.kind ≡ C.Sent.sending.named }
-    ensures { IfOk result (JudgeLine C.Charge.kind C.Charge.equality C.Sent.sending name.now preset.entry.header preset.entry.letters.now preset.entry.entries.now) }
+    requires { preset.kind ≡ C.sending.named }
+    ensures { IfOk result (JudgeLine C.kind C.equality C.sending name.now preset.entry.header preset.entry.letters.now preset.entry.entries.now) }
 {
     let charges = charges_of::<C>(alloc, preset.entries)?;
     let mut crossings = vec![in alloc; C::zero(); CROSSING_ROOM]?;
