@@ -3,3 +3,4 @@ pub mod Tables
 pub mod Meanings
 pub mod Making
 pub mod Lookups
+pub mod Shown

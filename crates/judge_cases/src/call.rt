@@ -1,166 +1,155 @@
 // The four calls, over every kind, form of rule and form of density.
-use crate::kind::Printed;
+use crate::density::DensityLine;
+use crate::error::CaseError;
+use crate::kind::Tried;
 use crate::numbers::Numbers;
-use crate::parts::{DensityLine, RuleLine, density_line, rule_line};
-use crate::rings::{next_case, total_case};
-use crate::show::write_fault;
-use crate::totals::{Rooms, new_strips};
-use automaton::{Density, PatternDensity, Rule, SumRule, TableDensity, TableRule};
-use bench::{Draft, Verdict, compare};
-use charge::{Both, Channels, Pitch, Voices};
+use crate::rule::RuleLine;
+use crate::show::{MARK, write_end, write_fault};
+use crate::strips::{Rooms, Strips};
+use automaton::{Density, Rule, ShownLetters, next_ring, total};
+use bench::{Break, Draft, Verdict, compare};
+use charge::{Both, Channels, ChargeKind, Pitch, Voices};
 use std::alloc::Global;
 use std::io;
 use std::io::Write;
 
-// Judges a rule under a density.
-fn judge_parts<C: Printed, R: Rule + Drop, D: Density<C> + Drop, W: Write>(
+// The calls, by their numbers on a line.
+#[derive(Clone, Copy)]
+enum Call {
+    Judge,
+    Compare,
+    NextRing,
+    Total,
+}
+
+impl From<usize> for Call {
+    fn from(number: usize) -> Call {
+        match number {
+            0 => Call::Judge,
+            1 => Call::Compare,
+            2 => Call::NextRing,
+            _ => Call::Total,
+        }
+    }
+}
+
+// The break that a verdict tells of, if it tells of one.
+fn break_of<C: Tried, R: Drop, D: Drop>(verdict: Verdict<C, R, D>) -> Option<Break<C>> {
+    match verdict {
+        Verdict::Holds(_bench) => None,
+        Verdict::Breaks(_bench, found) => Some(found),
+    }
+}
+
+// A rule judged under a density.
+fn judge_parts<C: Tried, R: Rule + Drop, D: Density<C> + Drop, W: Write>(
     alloc: Global,
     out: &mut W,
     rule: R,
     density: D,
     rooms: Rooms,
-) -> io::Result<()> {
-    let q = rule.q();
+) -> Result<(), CaseError> {
     let m = rule.n().saturating_add(density.k()).saturating_sub(1);
-    let mut strips = new_strips::<C>(alloc, rooms, q, m)?;
-    match Draft::new::<C>(rule, density) {
-        Err(refused) => write_fault(out, "refused", refused.fault),
-        Ok(draft) => match draft.judge(&mut strips.crossings, &mut strips.ring) {
-            Err(refused) => write_fault(out, "refused", refused.fault),
-            Ok(Verdict::Holds(_bench)) => strips.write_none(out, "holds"),
-            Ok(Verdict::Breaks(_bench, found)) => strips.write_break(out, "breaks", found),
-        },
-    }
+    let mut strips = Strips::<C>::new(alloc, rooms, rule.q(), m)?;
+    let draft = Draft::new::<C>(rule, density)?;
+    let verdict = draft.judge(&mut strips.crossings, &mut strips.ring)?;
+    strips.write_found(out, "holds", "breaks", break_of(verdict))?;
+    Ok(())
 }
 
-fn judge_rule<C: Printed, R: Rule + Drop, W: Write>(
-    alloc: Global,
-    out: &mut W,
-    rule: R,
-    line: &DensityLine<C>,
-    rooms: Rooms,
-) -> io::Result<()> {
-    if line.pattern {
-        let mut density = PatternDensity::zero();
-        match density.fill(line.q, line.k, &line.letters, line.charge()) {
-            Ok(()) => judge_parts(alloc, out, rule, density, rooms),
-            Err(fault) => write_fault(out, "second", fault),
-        }
-    } else {
-        let mut density = TableDensity::zero();
-        match density.fill(line.q, line.k, &line.entries) {
-            Ok(()) => judge_parts(alloc, out, rule, density, rooms),
-            Err(fault) => write_fault(out, "second", fault),
-        }
-    }
-}
-
-fn judge_case<C: Printed, W: Write>(
-    alloc: Global,
-    out: &mut W,
-    rule: &RuleLine,
-    density: &DensityLine<C>,
-    rooms: Rooms,
-) -> io::Result<()> {
-    if rule.sums {
-        let mut made = SumRule::zero();
-        match made.fill(rule.q, rule.n, rule.l, &rule.letters) {
-            Ok(()) => judge_rule(alloc, out, made, density, rooms),
-            Err(fault) => write_fault(out, "first", fault),
-        }
-    } else {
-        let mut made = TableRule::zero();
-        match made.fill(rule.q, rule.n, rule.l, &rule.letters) {
-            Ok(()) => judge_rule(alloc, out, made, density, rooms),
-            Err(fault) => write_fault(out, "first", fault),
-        }
-    }
-}
-
-// Compares two densities.
-fn compare_parts<C: Printed, D: Density<C>, E: Density<C>, W: Write>(
-    alloc: Global,
-    out: &mut W,
-    first: &D,
-    second: &E,
-    rooms: Rooms,
-) -> io::Result<()> {
-    let mut strips = new_strips::<C>(alloc, rooms, first.q(), first.k().max(second.k()))?;
-    match compare(first, second, &mut strips.crossings, &mut strips.ring) {
-        Err(fault) => write_fault(out, "refused", fault),
-        Ok(None) => strips.write_none(out, "agree"),
-        Ok(Some(found)) => strips.write_break(out, "differ", found),
-    }
-}
-
-fn compare_second<C: Printed, D: Density<C>, W: Write>(
-    alloc: Global,
-    out: &mut W,
-    first: &D,
-    line: &DensityLine<C>,
-    rooms: Rooms,
-) -> io::Result<()> {
-    if line.pattern {
-        let mut density = PatternDensity::zero();
-        match density.fill(line.q, line.k, &line.letters, line.charge()) {
-            Ok(()) => compare_parts(alloc, out, first, &density, rooms),
-            Err(fault) => write_fault(out, "second", fault),
-        }
-    } else {
-        let mut density = TableDensity::zero();
-        match density.fill(line.q, line.k, &line.entries) {
-            Ok(()) => compare_parts(alloc, out, first, &density, rooms),
-            Err(fault) => write_fault(out, "second", fault),
-        }
-    }
-}
-
-fn compare_case<C: Printed, W: Write>(
-    alloc: Global,
-    out: &mut W,
-    first: &DensityLine<C>,
-    second: &DensityLine<C>,
-    rooms: Rooms,
-) -> io::Result<()> {
-    if first.pattern {
-        let mut density = PatternDensity::zero();
-        match density.fill(first.q, first.k, &first.letters, first.charge()) {
-            Ok(()) => compare_second(alloc, out, &density, second, rooms),
-            Err(fault) => write_fault(out, "first", fault),
-        }
-    } else {
-        let mut density = TableDensity::zero();
-        match density.fill(first.q, first.k, &first.entries) {
-            Ok(()) => compare_second(alloc, out, &density, second, rooms),
-            Err(fault) => write_fault(out, "first", fault),
-        }
-    }
-}
-
-fn case_as<C: Printed, W: Write>(
+fn judge_case<C: Tried, W: Write>(
     alloc: Global,
     out: &mut W,
     numbers: &mut Numbers,
-    call: usize,
     rooms: Rooms,
-) -> io::Result<()> {
+) -> Result<(), CaseError> {
+    let rule = RuleLine::read(alloc, numbers)?;
+    let density = DensityLine::<C>::read(alloc, numbers)?;
+    let rule = rule.rule().map_err(CaseError::First)?;
+    let density = density.density().map_err(CaseError::Second)?;
+    judge_parts(alloc, out, rule, density, rooms)
+}
+
+// Two densities compared.
+fn compare_case<C: Tried, W: Write>(
+    alloc: Global,
+    out: &mut W,
+    numbers: &mut Numbers,
+    rooms: Rooms,
+) -> Result<(), CaseError> {
+    let first = DensityLine::<C>::read(alloc, numbers)?;
+    let second = DensityLine::<C>::read(alloc, numbers)?;
+    let first = first.density().map_err(CaseError::First)?;
+    let second = second.density().map_err(CaseError::Second)?;
+    let m = first.k().max(second.k());
+    let mut strips = Strips::<C>::new(alloc, rooms, first.q(), m)?;
+    let found = compare(&first, &second, &mut strips.crossings, &mut strips.ring)?;
+    strips.write_found(out, "agree", "differ", found)?;
+    Ok(())
+}
+
+// The next ring under a rule.
+fn next_case<W: Write>(
+    alloc: Global,
+    out: &mut W,
+    numbers: &mut Numbers,
+    rooms: Rooms,
+) -> Result<(), CaseError> {
+    let rule = RuleLine::read(alloc, numbers)?;
+    let ring = numbers.letters(alloc)?;
+    let rule = rule.rule().map_err(CaseError::First)?;
+    let mut strip = vec![in alloc; MARK; rooms.ring]?;
+    next_ring(&rule, &ring, &mut strip)?;
+    let (next, others) = strip.split_at(ring.len().min(strip.len()));
+    let next = ShownLetters { letters: next };
+    write!(out, "next {next}")?;
+    write_end::<Voices, W>(out, &[], others)?;
+    Ok(())
+}
+
+// The total of a ring under a density.
+fn total_case<C: Tried, W: Write>(
+    alloc: Global,
+    out: &mut W,
+    numbers: &mut Numbers,
+) -> Result<(), CaseError> {
+    let density = DensityLine::<C>::read(alloc, numbers)?;
+    let ring = numbers.letters(alloc)?;
+    let density = density.density().map_err(CaseError::First)?;
+    let sum: C = total(&density, &ring)?;
+    let word = sum.word();
+    writeln!(out, "total {word}")?;
+    Ok(())
+}
+
+fn case_as<C: Tried, W: Write>(
+    alloc: Global,
+    out: &mut W,
+    numbers: &mut Numbers,
+    call: Call,
+    rooms: Rooms,
+) -> Result<(), CaseError> {
     match call {
-        0 => {
-            let rule = rule_line(alloc, numbers)?;
-            let density = density_line::<C>(alloc, numbers)?;
-            judge_case(alloc, out, &rule, &density, rooms)
-        }
-        1 => {
-            let first = density_line::<C>(alloc, numbers)?;
-            let second = density_line::<C>(alloc, numbers)?;
-            compare_case(alloc, out, &first, &second, rooms)
-        }
-        2 => next_case(alloc, out, numbers, rooms),
-        _ => {
-            let density = density_line::<C>(alloc, numbers)?;
-            let ring = numbers.letters(alloc)?;
-            total_case(out, &density, &ring)
-        }
+        Call::Judge => judge_case::<C, W>(alloc, out, numbers, rooms),
+        Call::Compare => compare_case::<C, W>(alloc, out, numbers, rooms),
+        Call::NextRing => next_case(alloc, out, numbers, rooms),
+        Call::Total => total_case::<C, W>(alloc, out, numbers),
+    }
+}
+
+// Makes the call of a line and prints its result, if it has one of its own.
+fn case<W: Write>(alloc: Global, out: &mut W, numbers: &mut Numbers) -> Result<(), CaseError> {
+    let call = Call::from(numbers.count());
+    let kind = ChargeKind::try_from(numbers.plain()).unwrap_or(ChargeKind::Both);
+    let rooms = Rooms {
+        crossings: numbers.count(),
+        ring: numbers.count(),
+    };
+    match kind {
+        ChargeKind::Voices => case_as::<Voices, W>(alloc, out, numbers, call, rooms),
+        ChargeKind::Pitch => case_as::<Pitch, W>(alloc, out, numbers, call, rooms),
+        ChargeKind::Channels => case_as::<Channels, W>(alloc, out, numbers, call, rooms),
+        ChargeKind::Both => case_as::<Both, W>(alloc, out, numbers, call, rooms),
     }
 }
 
@@ -170,15 +159,11 @@ pub(crate) fn write_case<W: Write>(
     out: &mut W,
     numbers: &mut Numbers,
 ) -> io::Result<()> {
-    let call = numbers.count();
-    let kind = numbers.count();
-    let crossings = numbers.count();
-    let ring = numbers.count();
-    let rooms = Rooms { crossings, ring };
-    match kind {
-        0 => case_as::<Voices, W>(alloc, out, numbers, call, rooms),
-        1 => case_as::<Pitch, W>(alloc, out, numbers, call, rooms),
-        2 => case_as::<Channels, W>(alloc, out, numbers, call, rooms),
-        _ => case_as::<Both, W>(alloc, out, numbers, call, rooms),
+    match case(alloc, out, numbers) {
+        Ok(()) => Ok(()),
+        Err(CaseError::First(fault)) => write_fault(out, "first", fault),
+        Err(CaseError::Second(fault)) => write_fault(out, "second", fault),
+        Err(CaseError::Refused(fault)) => write_fault(out, "refused", fault),
+        Err(CaseError::Io(error)) => Err(error),
     }
 }

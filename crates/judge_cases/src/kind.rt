@@ -1,27 +1,30 @@
 // The kinds of charge, made of two numbers and printed.
 use charge::{Both, Channels, Charge, Pitch, Voices};
-use std::io;
-use std::io::Write;
+use console::EntryWord;
+use preset::Sent;
 
-pub trait Printed: Charge {
-    // The charge of a signed and a plain part.
+pub trait Tried: Sent {
+    // The charge of a signed and a plain part, which may be no entry.
     fn from_parts(signed: i64, plain: u64) -> Self;
 
     // What strips are filled with before a call.
     fn mark() -> Self;
 
-    fn write<W: Write>(self, out: &mut W) -> io::Result<()>;
+    // The charge as it is printed.
+    fn word(self) -> EntryWord {
+        EntryWord {
+            kind: Self::kind(),
+            entry: self.to_entry(),
+        }
+    }
 }
 
 fn pitch(plain: u64) -> Pitch {
     let class = u8::try_from(plain).unwrap_or(0);
-    match Pitch::new(class) {
-        Some(pitch) => pitch,
-        None => Pitch::zero(),
-    }
+    Pitch::new(class).unwrap_or(Pitch::zero())
 }
 
-impl Printed for Voices {
+impl Tried for Voices {
     fn from_parts(signed: i64, plain: u64) -> Voices {
         Voices { count: signed }
     }
@@ -29,14 +32,9 @@ impl Printed for Voices {
     fn mark() -> Voices {
         Voices { count: 77 }
     }
-
-    fn write<W: Write>(self, out: &mut W) -> io::Result<()> {
-        let count = self.count;
-        write!(out, "{count}")
-    }
 }
 
-impl Printed for Pitch {
+impl Tried for Pitch {
     fn from_parts(signed: i64, plain: u64) -> Pitch {
         pitch(plain)
     }
@@ -44,14 +42,9 @@ impl Printed for Pitch {
     fn mark() -> Pitch {
         pitch(7)
     }
-
-    fn write<W: Write>(self, out: &mut W) -> io::Result<()> {
-        let class = self.class();
-        write!(out, "{class}")
-    }
 }
 
-impl Printed for Channels {
+impl Tried for Channels {
     fn from_parts(signed: i64, plain: u64) -> Channels {
         Channels {
             bits: u16::try_from(plain).unwrap_or(0),
@@ -61,14 +54,9 @@ impl Printed for Channels {
     fn mark() -> Channels {
         Channels { bits: 77 }
     }
-
-    fn write<W: Write>(self, out: &mut W) -> io::Result<()> {
-        let bits = self.bits;
-        write!(out, "{bits}")
-    }
 }
 
-impl Printed for Both {
+impl Tried for Both {
     fn from_parts(signed: i64, plain: u64) -> Both {
         Both {
             voices: Voices { count: signed },
@@ -81,11 +69,5 @@ impl Printed for Both {
             voices: Voices { count: 77 },
             pitch: pitch(7),
         }
-    }
-
-    fn write<W: Write>(self, out: &mut W) -> io::Result<()> {
-        let voices = self.voices.count;
-        let pitch = self.pitch.class();
-        write!(out, "{voices}:{pitch}")
     }
 }

@@ -4,12 +4,13 @@
 #![tactic(auto)]
 
 mod call;
+mod density;
+mod error;
 mod kind;
 mod numbers;
-mod parts;
-mod rings;
+mod rule;
 mod show;
-mod totals;
+mod strips;
 
 use crate::call::write_case;
 use crate::numbers::Numbers;

@@ -9,10 +9,10 @@ pub struct Numbers {
 
 impl Numbers {
     pub(crate) fn parse(alloc: Global, line: &str) -> Result<Numbers, AllocError> {
-        let mut numbers = Vec::new(alloc);
-        for word in line.split(' ') {
-            numbers.push(word.parse::<i64>().unwrap_or(0))?;
-        }
+        let numbers = line
+            .split(' ')
+            .map(|word| word.parse::<i64>().unwrap_or(0))
+            .collect(alloc)?;
         Ok(Numbers { numbers, next: 0 })
     }
 
@@ -32,9 +32,8 @@ impl Numbers {
 
     // As many letters as the next number says.
     pub(crate) fn letters(&mut self, alloc: Global) -> Result<Vec<u8>, AllocError> {
-        let count = self.count();
         let mut letters = Vec::new(alloc);
-        for i in 0..count {
+        for _ in 0..self.count() {
             letters.push(u8::try_from(self.signed()).unwrap_or(0))?;
         }
         Ok(letters)

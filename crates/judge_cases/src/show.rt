@@ -1,5 +1,5 @@
-// Answers and strips as text.
-use crate::kind::Printed;
+// Strips as text.
+use crate::kind::Tried;
 use fault::Fault;
 use std::io;
 use std::io::Write;
@@ -13,65 +13,23 @@ pub(crate) fn write_fault<W: Write>(out: &mut W, word: &str, fault: Fault) -> io
     writeln!(out, "{word} {code} {place}")
 }
 
-pub(crate) fn write_digits<W: Write>(out: &mut W, letters: &[u8]) -> io::Result<()> {
-    for letter in letters {
-        write!(out, "{letter}")?;
-    }
-    Ok(())
-}
-
-// q to the power of m, for the sizes of words.
-pub(crate) fn power(q: usize, m: usize) -> usize {
-    q.saturating_pow(u32::try_from(m).unwrap_or(0))
-}
-
-// The m letters of the word of a code.
-pub(crate) fn write_word<W: Write>(out: &mut W, q: usize, m: usize, code: usize) -> io::Result<()> {
-    for i in 0..m {
-        let letter = code / power(q, m - 1 - i).max(1) % q.max(1);
-        write!(out, "{letter}")?;
-    }
-    Ok(())
-}
-
-pub(crate) fn write_charges<C: Printed, W: Write>(out: &mut W, charges: &[C]) -> io::Result<()> {
+pub(crate) fn write_charges<C: Tried, W: Write>(out: &mut W, charges: &[C]) -> io::Result<()> {
     for (i, charge) in charges.iter().enumerate() {
         let comma = if i > 0 { "," } else { "" };
-        write!(out, "{comma}")?;
-        charge.write(out)?;
+        let word = charge.word();
+        write!(out, "{comma}{word}")?;
     }
     Ok(())
-}
-
-// Whether all letters are as they were marked.
-fn marked(letters: &[u8]) -> bool {
-    for letter in letters {
-        if *letter != MARK {
-            return false;
-        }
-    }
-    true
-}
-
-fn marked_charges<C: Printed>(charges: &[C]) -> bool {
-    for charge in charges {
-        if !charge.same(C::mark()) {
-            return false;
-        }
-    }
-    true
 }
 
 // The end of a line: whether what a call may not have written is as it was.
-pub(crate) fn write_end<C: Printed, W: Write>(
+pub(crate) fn write_end<C: Tried, W: Write>(
     out: &mut W,
     charges: &[C],
     letters: &[u8],
 ) -> io::Result<()> {
-    let word = if marked_charges(charges) && marked(letters) {
-        "clean"
-    } else {
-        "dirty"
-    };
+    let clean = charges.iter().all(|charge| charge.same(C::mark()))
+        && letters.iter().all(|letter| *letter == MARK);
+    let word = if clean { "clean" } else { "dirty" };
     writeln!(out, " {word}")
 }

@@ -1,5 +1,4 @@
 pub mod Crossed
-pub mod Digits
 pub mod Lined
 pub mod Tables
 pub mod Verdicts

@@ -1,9 +1,9 @@
 -- Verdicts, comparisons and refusals as text. Assumes nothing.
 use Rattle.std.specs.Prelude.{ℕ, suc, ◌≤◌, Bool, true, false, List, [], ◌∷◌, ◌++◌, length, take, Some, None, Ok, Err, codes, decimal, Option, Result}
-use Rattle.std.specs.List.{flat_map}
 use Rattle.fault.specs.declared.Fault.{Fault}
 use Rattle.fault.specs.Refusals.{Refusal, refusal}
 use Rattle.charge.specs.declared.kind.ChargeKind.{ChargeKind}
+use Rattle.automaton.specs.Shown.{digits}
 use Rattle.automaton.specs.Words.{word}
 use Rattle.preset.specs.declared.entry.Entry.{Entry}
 use Rattle.console.specs.Forms.{entry_text}
@@ -20,10 +20,6 @@ pub record Shape : Type 0 where
 
 abbrev pub shape_of : ShapeOf → Shape
 shape_of s = record { kind = s.kind; q = s.q; m = s.m }
-
--- the letters of a word or a ring with nothing between them
-abbrev pub digits : List ℕ → List ℕ
-digits w = flat_map decimal w
 
 -- the word for yes and the word for no
 abbrev pub good_word : Question → List ℕ

@@ -21,8 +21,8 @@ fn compare_shape(first: Loaded<'_>, second: Loaded<'_>) -> Shape
 {
     Shape {
         kind: first.kind,
-        q: first.header.q,
-        m: first.header.k.max(second.header.k),
+        q: first.header.q as usize,
+        m: first.header.k.max(second.header.k) as usize,
     }
 }
 

@@ -26,8 +26,8 @@ fn crossing_shape(preset: Loaded<'_>) -> Shape
     let header = preset.header;
     Shape {
         kind: preset.kind,
-        q: header.q,
-        m: header.n + header.k - 1 - 1,
+        q: header.q as usize,
+        m: (header.n + header.k - 1 - 1) as usize,
     }
 }
 
@@ -41,7 +41,7 @@ fn page_line<C: Sent>(
     requires { (shape.m ≤ 22) × (shape.q ^ shape.m ≤ 4096) × (shape.q ^ shape.m ≤ length strip.now) }
     ensures { IfOk result (LineIs (rows_text (λ i x. row_text (shape_of shape) i (C.sending.entry x)) 0 (take (shape.q ^ shape.m) strip.now)) (answer_good found)) }
 {
-    let count = shape.q.pow(shape.m as u32) as usize;
+    let count = shape.q.pow(shape.m as u32);
     let text = rows_text(alloc, shape, &strip[..count])?;
     Ok(Line {
         text,

@@ -11,7 +11,6 @@ mod line;
 mod rows;
 mod texts;
 mod verdict;
-mod word;
 
 pub use comparing::compare_line;
 pub use crossing::crossings_page;

@@ -1,7 +1,7 @@
 // A verdict's text, and what it is made of.
 ghost use Rattle.std.specs.Prelude.{◌≡◌, ◌≤◌};
 
-use crate::word::Word;
+use automaton::ShownWord;
 use charge::ChargeKind;
 use console::EntryWord;
 use preset::Entry;
@@ -24,22 +24,22 @@ pub(crate) enum Question {
 #[derive(Clone, Copy)]
 pub(crate) struct Shape {
     pub kind: ChargeKind,
-    pub q: u64,
-    pub m: u64,
+    pub q: usize,
+    pub m: usize,
     ghost some: { 1 ≤ q },
 }
 
 impl Shape {
     // The word of a code.
-    pub(crate) fn word(self, code: usize) -> Word
+    pub(crate) fn word(self, code: usize) -> ShownWord
         ensures q { result.q ≡ self.q }
         ensures m { result.m ≡ self.m }
         ensures code { result.code ≡ code }
     {
-        Word {
+        ShownWord {
             q: self.q,
             m: self.m,
-            code: code as u64,
+            code,
         }
     }
 

@@ -5,7 +5,7 @@ ghost use Rattle.report.specs.Texts.{kinds_text, good_word, bad_word, refused_te
 ghost use Rattle.report.specs.Lines.{LineIs};
 
 use crate::line::{Finding, Line, Question, Shape};
-use crate::word::Letters;
+use automaton::ShownLetters;
 use fault::Fault;
 use std::alloc::{AllocError, Global};
 
@@ -57,7 +57,7 @@ impl Asked<'_> {
         let subject = self.subject;
         let verdict = self.question.bad_word();
         let word = self.shape.word(finding.word);
-        let cells = Letters { letters: ring };
+        let cells = ShownLetters { letters: ring };
         let first = self.shape.entry(finding.first);
         let second = self.shape.entry(finding.second);
         let text = format!(in alloc; "{subject}\t{verdict}\t{word}\t{cells}\t{first}\t{second}")?;

@@ -46,8 +46,8 @@ fn judge_shape(preset: Loaded<'_>) -> Shape
     let header = preset.header;
     Shape {
         kind: preset.kind,
-        q: header.q,
-        m: header.n + header.k - 1,
+        q: header.q as usize,
+        m: (header.n + header.k - 1) as usize,
     }
 }
 

@@ -1,7 +1,7 @@
 use Rattle.std.proofs.Common.{take}
 use Rattle.std.specs.Fmt.{HasWritten, IsPlainFormatter}
-use Rattle.report.specs.Texts.{digits}
-use Rattle.report.proofs.word.LettersDisplay.fmt.Given as goal
+use Rattle.automaton.specs.Shown.{digits}
+use Rattle.automaton.proofs.shown.ShownLettersDisplay.fmt.Given as goal
 
 abbrev pub invariant-loop-letter : goal.invariant-loop-letter
 invariant-loop-letter g l =

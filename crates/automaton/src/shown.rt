@@ -1,17 +1,17 @@
 // Words and rings, shown as digits.
 ghost use Rattle.std.specs.Prelude.{◌≤◌, Some};
+ghost use Rattle.automaton.specs.Shown.{digits};
 ghost use Rattle.automaton.specs.Words.{word};
-ghost use Rattle.report.specs.Texts.{digits};
 
 use std::fmt;
 
 // Letters, shown one after another.
 #[derive(Clone, Copy)]
-pub(crate) struct Letters<'a> {
+pub struct ShownLetters<'a> {
     pub letters: &'a [u8],
 }
 
-impl fmt::Display for Letters<'_> {
+impl fmt::Display for ShownLetters<'_> {
     ghost output = { λ w. Some (digits w.letters.now) };
 
     fn fmt<W: fmt::Write>(&self, f: &mut fmt::Formatter<W>) -> fmt::Result {
@@ -22,23 +22,23 @@ impl fmt::Display for Letters<'_> {
     }
 }
 
-// The word of m letters with a code, shown likewise.
+// The word of m letters below q with a code, shown likewise.
 #[derive(Clone, Copy)]
-pub(crate) struct Word {
-    pub q: u64,
-    pub m: u64,
-    pub code: u64,
-    ghost some: { 1 ≤ q },
+pub struct ShownWord {
+    pub q: usize,
+    pub m: usize,
+    pub code: usize,
+    pub ghost some: { 1 ≤ q },
 }
 
-impl fmt::Display for Word {
+impl fmt::Display for ShownWord {
     ghost output = { λ w. Some (digits (word w.q w.m w.code)) };
 
     fn fmt<W: fmt::Write>(&self, f: &mut fmt::Formatter<W>) -> fmt::Result {
         if self.m == 0 {
             return Ok(());
         }
-        let front = Word {
+        let front = ShownWord {
             q: self.q,
             m: self.m - 1,
             code: self.code / self.q,

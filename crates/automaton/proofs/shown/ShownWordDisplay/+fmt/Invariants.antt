@@ -1,4 +1,4 @@
-use Rattle.report.proofs.word.WordDisplay.+fmt.Given as goal
+use Rattle.automaton.proofs.shown.ShownWordDisplay.+fmt.Given as goal
 
 abbrev pub decreases-fmt : goal.decreases-fmt
 decreases-fmt g l = l.self.now.m
