@@ -2,10 +2,9 @@
 use Rattle.std.proofs.Common.{◌≡◌, ℕ, zero, suc, ◌+◌, ◌-◌, ◌<◌, ◌≤◌, true, List, [], ◌∷◌, ◌++◌, length, get_or, take, drop, set, is_ok, Ok, Err, Result, sym, refl, ap, ◌∙◌, append_assoc, append-nil, arith, length-append}
 use Rattle.std.proofs.lemmas.List.{take_more, flat_map_more, take_more_set, drop-set-lt, length-take-le, take-append-drop, drop-drop}
 use Rattle.fault.specs.Refusals.{Refusal}
-use Rattle.fault.specs.Answers.{and_then, over, strip_after}
+use Rattle.fault.specs.Answers.{and_then, strip_after}
 use Rattle.preset.specs.Answers.{Answer, many, passed}
 use Rattle.preset.specs.Items.{sent}
-use Rattle.preset.proofs.Fronts.{over-over}
 
 -- items before others that are read
 abbrev pub ahead : {X : Type 0} → List X → Answer (List X) → Answer (List X)
@@ -92,10 +91,6 @@ module _ {X : Type 0} (sends : X → List ℕ) where
     pub length-sent_more : length (sent sends (take (i + 1) xs)) ≡ length (sent sends (take i xs)) + length (sends x)
     length-sent_more = ap length sent_more ∙ length-append (sent sends (take i xs)) (sends x)
 
-    -- there is room for the item, and it goes after the others
-    module _ (was : List ℕ) (at : ℕ) (room : at + length (sent sends xs) ≤ length was) where
-      pub put-room : at + length (sent sends (take i xs)) + length (sends x) ≤ length was
-      put-room = omega (arith, length-sent_more, sent_front (i + 1) xs)
-
-      pub put_more : over (over was at (sent sends (take i xs))) (at + length (sent sends (take i xs))) (sends x) ≡ over was at (sent sends (take (i + 1) xs))
-      put_more = over-over was at (sent sends (take i xs)) (sends x) (omega arith) ∙ ap (over was at) (sym sent_more)
+    -- there is room for the item after the others
+    pub more_room : (room : ℕ) → length (sent sends xs) ≤ room → length (sent sends (take i xs) ++ sends x) ≤ room
+    more_room room h = omega (arith, ap length sent_more, sent_front (i + 1) xs)

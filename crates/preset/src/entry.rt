@@ -1,6 +1,6 @@
 // Entries of a density, as they stand in a preset: a signed and a plain part.
 ghost use Rattle.std.specs.Prelude.{◌≡◌, ◌+◌, ◌≤◌, length};
-ghost use Rattle.fault.specs.Answers.{over};
+ghost use Rattle.fault.specs.Answers.{front};
 ghost use Rattle.preset.specs.Entries.{signed_part, plain_end, signed_fits, plain_fits, fits, signed_read, plain_read, zig, zag, signed_number, plain_number, part_bytes, entry_bytes};
 ghost use Rattle.preset.specs.Inputs.{Reads};
 ghost use Rattle.preset.specs.Items.{entry_format};
@@ -139,15 +139,15 @@ fn part_len(part: Option<u64>) -> usize
     }
 }
 
-// Writes a part from `at` on, where there is room, and answers the index after it.
-fn put_part(part: Option<u64>, out: &mut [u8], at: usize) -> usize
-    requires { at + length (part_bytes part) ≤ length out.old }
-    ensures end { result ≡ at + length (part_bytes part) }
-    ensures strip { out.new ≡ over out.old at (part_bytes part) }
+// Writes a part to the front of a strip, where there is room, and answers how many bytes it takes.
+fn put_part(part: Option<u64>, out: &mut [u8]) -> usize
+    requires { length (part_bytes part) ≤ length out.old }
+    ensures count { result ≡ length (part_bytes part) }
+    ensures strip { out.new ≡ front (part_bytes part) out.old }
 {
     match part {
-        None => at,
-        Some(number) => put_number(number, out, at),
+        None => 0,
+        Some(number) => put_number(number, out),
     }
 }
 
@@ -176,8 +176,8 @@ impl Encode for Entry {
         part_len(signed_number(shape.kind, self)) + part_len(plain_number(shape.kind, self))
     }
 
-    fn put(self, shape: Shape, out: &mut [u8], at: usize) -> usize {
-        let next = put_part(signed_number(shape.kind, self), out, at);
-        put_part(plain_number(shape.kind, self), out, next)
+    fn put(self, shape: Shape, out: &mut [u8]) -> usize {
+        let signed = put_part(signed_number(shape.kind, self), out);
+        signed + put_part(plain_number(shape.kind, self), &mut out[signed..])
     }
 }

@@ -1,6 +1,6 @@
 // Letters and entries alike: many items, one after another, read from bytes or written as bytes.
-ghost use Rattle.std.specs.Prelude.{◌≡◌, ℕ, ◌+◌, ◌≤◌, true, List, length, is_ok, Ok};
-ghost use Rattle.fault.specs.Answers.{plainly, over, strip_after};
+ghost use Rattle.std.specs.Prelude.{◌≡◌, ℕ, ◌≤◌, true, List, length, is_ok, Ok};
+ghost use Rattle.fault.specs.Answers.{plainly, front, strip_after};
 ghost use Rattle.fault.specs.Checks.{each_fits};
 ghost use Rattle.preset.specs.Answers.{many, passed};
 ghost use Rattle.preset.specs.Inputs.{Reads};
@@ -37,11 +37,11 @@ pub(crate) trait Encode: Copy {
         ensures count { result ≡ length (bytes shape self) }
         ensures bound { result ≤ 20 };
 
-    // Writes the bytes from `at` on, where there is room, and answers the index after them.
-    fn put(self, shape: Shape, out: &mut [u8], at: usize) -> usize
-        requires { at + length (bytes shape self) ≤ length out.old }
-        ensures end { result ≡ at + length (bytes shape self) }
-        ensures strip { out.new ≡ over out.old at (bytes shape self) };
+    // Writes the bytes to the front of a strip, where there is room, and answers how many there are.
+    fn put(self, shape: Shape, out: &mut [u8]) -> usize
+        requires { length (bytes shape self) ≤ length out.old }
+        ensures count { result ≡ length (bytes shape self) }
+        ensures strip { out.new ≡ front (bytes shape self) out.old };
 }
 
 // Passes over `count` items.
@@ -102,15 +102,15 @@ pub(crate) fn total_len<T: Encode>(shape: Shape, items: &[T]) -> usize
     count
 }
 
-// Writes the items from `at` on, where there is room, and answers the index after them.
-pub(crate) fn put_all<T: Encode>(shape: Shape, items: &[T], out: &mut [u8], at: usize) -> usize
-    requires { at + length (sent (T.Encode.bytes shape) items.now) ≤ length out.old }
-    ensures end { result ≡ at + length (sent (T.Encode.bytes shape) items.now) }
-    ensures strip { out.new ≡ over out.old at (sent (T.Encode.bytes shape) items.now) }
+// Writes the items to the front of a strip, where there is room, and answers how many bytes they take.
+pub(crate) fn put_all<T: Encode>(shape: Shape, items: &[T], out: &mut [u8]) -> usize
+    requires { length (sent (T.Encode.bytes shape) items.now) ≤ length out.old }
+    ensures count { result ≡ length (sent (T.Encode.bytes shape) items.now) }
+    ensures strip { out.new ≡ front (sent (T.Encode.bytes shape) items.now) out.old }
 {
-    let mut next = at;
+    let mut count = 0;
     for item in items {
-        next = item.put(shape, out, next);
+        count += item.put(shape, &mut out[count..]);
     }
-    next
+    count
 }

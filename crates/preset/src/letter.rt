@@ -32,7 +32,7 @@ impl Encode for u8 {
         spelt_len(self as u64)
     }
 
-    fn put(self, _shape: Shape, out: &mut [u8], at: usize) -> usize {
-        put_number(self as u64, out, at)
+    fn put(self, _shape: Shape, out: &mut [u8]) -> usize {
+        put_number(self as u64, out)
     }
 }
