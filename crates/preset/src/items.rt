@@ -72,8 +72,8 @@ pub(crate) fn fill<T: Item>(shape: Shape, input: Unread<'_>, strip: &mut [T], co
     ensures { strip.new ≡ strip_after (λ p. p.0) strip.old (many (T.Item.format.reads shape input.entry.whole) count input.entry.bytes.now) }
 {
     let mut input = input;
-    for i in 0..count {
-        strip[i] = read_there::<T>(shape, &mut input);
+    for item in &mut strip[..count] {
+        *item = read_there::<T>(shape, &mut input);
     }
 }
 
@@ -81,12 +81,10 @@ pub(crate) fn fill<T: Item>(shape: Shape, input: Unread<'_>, strip: &mut [T], co
 pub(crate) fn check<T: Item>(shape: Shape, items: &[T]) -> Result<(), Fault>
     ensures { plainly result ≡ each_fits (T.Item.format.fits shape) T.Item.format.stop 0 items.now }
 {
-    for (i, item) in items.iter().enumerate() {
-        if !item.fits(shape) {
-            return Err(T::stop().at(i));
-        }
+    match items.iter().position(|item| !item.fits(shape)) {
+        Some(i) => Err(T::stop().at(i)),
+        None => Ok(()),
     }
-    Ok(())
 }
 
 // How many bytes the items take.
@@ -95,6 +93,7 @@ pub(crate) fn total_len<T: Encode>(shape: Shape, items: &[T]) -> usize
     ensures count { result ≡ length (sent (T.Encode.bytes shape) items.now) }
     ensures bound { result ≤ 81920 }
 {
+    // A `for` and no `sum`, through which the bound on the total is not seen.
     let mut count = 0;
     for item in items {
         count += item.len(shape);

@@ -34,19 +34,18 @@ pub fn read_number(input: &[u8], place: usize) -> Result<(u64, &[u8]), Fault>
         return Err(Stop::Misspelt.at(place));
     }
     let mut rest = input;
-    let mut high: u64 = 0;
-    for i in 0..MOST_BYTES {
+    let mut value: u64 = 0;
+    for _ in 0..MOST_BYTES {
         let [byte, tail @ ..] = rest else {
             return Err(Stop::CutShort.at(place));
         };
-        let value = high * 128 + (*byte % 128) as u64;
+        value = value * 128 + (*byte % 128) as u64;
         if ends_number(*byte) {
             if value > MOST_NUMBER {
                 return Err(Stop::Misspelt.at(place));
             }
             return Ok((value, tail));
         }
-        high = value;
         rest = tail;
     }
     Err(Stop::Misspelt.at(place))
