@@ -27,10 +27,7 @@ pub fn read_number(input: &[u8], place: usize) -> Result<(u64, &[u8]), Fault>
     ensures rest { IfOk result (λ p. length p.1.now < length input.now) }
     ensures refusals { NumberRefusals }
 {
-    let [first, ..] = input else {
-        return Err(Stop::CutShort.at(place));
-    };
-    if *first == 0x80 {
+    if let [0x80, ..] = input {
         return Err(Stop::Misspelt.at(place));
     }
     let mut rest = input;
@@ -56,13 +53,8 @@ pub(crate) fn spelt_len(value: u64) -> usize
     ensures count { result ≡ length (spell value) }
     ensures bound { result ≤ 10 }
 {
-    let mut count = 1;
-    let mut high = value / 128;
-    while high > 0 {
-        count += 1;
-        high /= 128;
-    }
-    count
+    // A byte for each seven of its bits.
+    value.max(1).ilog2() as usize / 7 + 1
 }
 
 // Writes the groups of `high` to the front of a strip, each with the top bit set, and answers how many there are.

@@ -1,4 +1,4 @@
-use Rattle.std.proofs.Common.{◌≡◌, ◌+◌, ◌*◌, ◌^◌, ◌<◌, ◌≤◌, length, take, drop}
+use Rattle.std.proofs.Common.{◌≡◌, ◌+◌, ◌*◌, ◌^◌, ◌<◌, ◌≤◌, length, get_or, take, drop}
 use Rattle.preset.specs.Numbers.{tops, value}
 use Rattle.preset.proofs.number.read_number.Given as goal
 
@@ -9,3 +9,4 @@ invariant-loop l =
     × (tops l.input ≡ l.counter + tops l.rest)
     × (l.value ≡ value (take l.counter l.input))
     × (l.value < 2 ^ (7 * l.counter))
+    × (get_or l.input 0 0 ≡ 128 → ⊥)
