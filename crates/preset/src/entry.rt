@@ -1,5 +1,5 @@
 // Entries of a density, as they stand in a preset: a signed and a plain part.
-ghost use Rattle.std.specs.Prelude.{◌≡◌, ◌+◌, ◌≤◌, length};
+ghost use Rattle.std.specs.Prelude.{◌≡◌, ◌≤◌, if◌then◌else◌, length, Some, None};
 ghost use Rattle.fault.specs.Answers.{front};
 ghost use Rattle.preset.specs.Entries.{signed_part, plain_end, signed_fits, plain_fits, fits, signed_read, plain_read, zig, zag, signed_number, plain_number, part_bytes, entry_bytes};
 ghost use Rattle.preset.specs.Inputs.{Reads};
@@ -101,10 +101,21 @@ fn fits_plain(kind: ChargeKind, value: u64) -> bool
 }
 
 // Whether the kind allows the entry.
-pub(crate) fn is_allowed(kind: ChargeKind, entry: Entry) -> bool
+fn is_allowed(kind: ChargeKind, entry: Entry) -> bool
     ensures { result ≡ fits kind entry }
 {
     fits_signed(kind, entry.signed) && fits_plain(kind, entry.plain)
+}
+
+// The entry, if the kind allows it.
+pub(crate) fn allowed(kind: ChargeKind, entry: Entry) -> Option<Entry>
+    ensures { result ≡ (if fits kind entry then Some entry else None) }
+{
+    if is_allowed(kind, entry) {
+        Some(entry)
+    } else {
+        None
+    }
 }
 
 // The number that the signed part is sent as, if the kind has one.
