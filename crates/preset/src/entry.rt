@@ -78,8 +78,7 @@ fn read_plain(kind: ChargeKind, input: &mut Unread<'_>) -> Result<u64, Fault>
     let Some(end) = plain_below(kind) else {
         return Ok(0);
     };
-    let value = input.field(0, end, Stop::BadEntry)?;
-    Ok(value)
+    input.field(0, end, Stop::BadEntry)
 }
 
 fn fits_signed(kind: ChargeKind, value: i64) -> bool
@@ -111,32 +110,21 @@ fn is_allowed(kind: ChargeKind, entry: Entry) -> bool
 pub(crate) fn allowed(kind: ChargeKind, entry: Entry) -> Option<Entry>
     ensures { result ≡ (if fits kind entry then Some entry else None) }
 {
-    if is_allowed(kind, entry) {
-        Some(entry)
-    } else {
-        None
-    }
+    is_allowed(kind, entry).then_some(entry)
 }
 
 // The number that the signed part is sent as, if the kind has one.
 fn signed_number(kind: ChargeKind, entry: Entry) -> Option<u64>
     ensures { result ≡ signed_number (signed_part kind) entry.signed }
 {
-    if has_signed(kind) {
-        Some(to_number(entry.signed))
-    } else {
-        None
-    }
+    has_signed(kind).then(|| to_number(entry.signed))
 }
 
 // The number that the plain part is sent as, if the kind has one.
 fn plain_number(kind: ChargeKind, entry: Entry) -> Option<u64>
     ensures { result ≡ plain_number (plain_end kind) entry.plain }
 {
-    match plain_below(kind) {
-        None => None,
-        Some(_) => Some(entry.plain),
-    }
+    plain_below(kind).map(|_| entry.plain)
 }
 
 // How many bytes a part takes.
@@ -144,10 +132,7 @@ fn part_len(part: Option<u64>) -> usize
     ensures count { result ≡ length (part_bytes part) }
     ensures bound { result ≤ 10 }
 {
-    match part {
-        None => 0,
-        Some(number) => spelt_len(number),
-    }
+    part.map_or(0, spelt_len)
 }
 
 // Writes a part to the front of a strip, where there is room, and answers how many bytes it takes.

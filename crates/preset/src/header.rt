@@ -73,9 +73,8 @@ impl Head {
         let place = input.place();
         let k = input.field(1, MOST_WIDTH + 1, Stop::BadWidth)?;
         word_count(q, n + k - 1).ok_or(Stop::TooManyWords.at(place))?;
-        let kind_number = kind.number();
         let header = Header {
-            kind: kind_number,
+            kind: kind.number(),
             q,
             n,
             l,

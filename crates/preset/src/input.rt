@@ -60,10 +60,7 @@ impl<'a> Unread<'a> {
     {
         let place = self.place();
         let number = self.number()?;
-        let Some(kind) = ChargeKind::from_number(number) else {
-            return Err(Stop::UnknownKind.at(place));
-        };
-        Ok(kind)
+        ChargeKind::from_number(number).ok_or(Stop::UnknownKind.at(place))
     }
 
     // Reads a number that lies from `low` to `end` - 1.

@@ -41,9 +41,7 @@ fn check_sizes(header: Header) -> Result<(), Fault>
 fn check_head(header: Header) -> Result<Head, Fault>
     ensures { plainly (heads result) ≡ head_checked header }
 {
-    let Some(kind) = ChargeKind::from_number(header.kind) else {
-        return Err(Stop::UnknownKind.at(0));
-    };
+    let kind = ChargeKind::from_number(header.kind).ok_or(Stop::UnknownKind.at(0))?;
     check_sizes(header)?;
     Ok(Head { kind, header })
 }
@@ -54,8 +52,7 @@ fn check_contents(head: Head, letters: &[u8], entries: &[Entry]) -> Result<(), F
 {
     let shape = head.shape();
     check::<u8>(shape, letters)?;
-    check::<Entry>(shape, entries)?;
-    Ok(())
+    check::<Entry>(shape, entries)
 }
 
 // Every test but the byte strip's.
