@@ -4,9 +4,6 @@ use borrow.Rule.Slice.PartMut.{put_mid}
 use Rattle.std.proofs.lemmas.List.{length_push, drop_more, set_at, take_at, drop_at, drop-drop, take_rest, nil_from_length}
 use Rattle.fault.specs.Answers.{front}
 
-pub front_none : {X : Type 0} (strip : List X) → strip ≡ front [] strip
-front_none strip = refl
-
 -- one entry more
 pub front_more : {X : Type 0} (strip bs : List X) (x : X) → length bs < length strip → set (front bs strip) (length bs) x ≡ front (bs ++ (x ∷ [])) strip
 front_more {X} strip bs x h =

@@ -54,24 +54,23 @@ pub(crate) fn skip<T: Item>(shape: Shape, input: &mut Unread<'_>, count: usize) 
     Ok(())
 }
 
-// Reads an item that is there.
+// Reads an item that is there: the bytes are passed over once before, since a refusal leaves the strips as they were.
 fn read_there<T: Item>(shape: Shape, input: &mut Unread<'_>) -> T
     requires { is_ok (T.Item.format.reads shape input.old.whole input.old.bytes.now) ≡ true }
     ensures { Reads input.old input.new (Ok result) (T.Item.format.reads shape) }
 {
     let Ok(item) = T::read(shape, input) else {
-        unreachable()
+        unreachable!()
     };
     item
 }
 
 // Reads `count` items, which are there, into the front of the strip.
-pub(crate) fn fill<T: Item>(shape: Shape, input: Unread<'_>, strip: &mut [T], count: usize)
+pub(crate) fn fill<T: Item>(shape: Shape, mut input: Unread<'_>, strip: &mut [T], count: usize)
     requires room { count ≤ length strip.old }
     requires there { is_ok (many (T.Item.format.reads shape input.whole) count input.bytes.now) ≡ true }
     ensures { strip.new ≡ strip_after (λ p. p.0) strip.old (many (T.Item.format.reads shape input.entry.whole) count input.entry.bytes.now) }
 {
-    let mut input = input;
     for item in &mut strip[..count] {
         *item = read_there::<T>(shape, &mut input);
     }
