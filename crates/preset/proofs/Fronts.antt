@@ -1,56 +1,64 @@
--- Entries written into a strip one after another. Assumes nothing.
-use Rattle.std.proofs.Common.{◌≡◌, ℕ, ◌+◌, ◌<◌, ◌≤◌, List, [], ◌∷◌, ◌++◌, length, get_or, take, drop, set, sym, ap, ◌∙◌, append_assoc, add-zero, zero-add, arith, length-append}
-use Rattle.std.proofs.lemmas.List.{length_push, drop_more, set_at, take-append-drop, length-take-le, take_at, drop_at, drop-drop}
-use Rattle.fault.specs.Answers.{over, front}
-
-pub over_none : {X : Type 0} (strip : List X) (at : ℕ) → strip ≡ over strip at []
-over_none strip at = rw add-zero (sym (take-append-drop at strip))
+-- Entries written to the front of a strip one after another. Assumes nothing.
+use Rattle.std.proofs.Common.{◌≡◌, ℕ, ◌+◌, ◌-◌, ◌<◌, ◌≤◌, List, [], ◌∷◌, ◌++◌, length, get_or, take, drop, set, sym, refl, ap, ◌∙◌, append_assoc, append-nil, arith, length-append, length-drop}
+use borrow.Rule.Slice.PartMut.{put_mid}
+use Rattle.std.proofs.lemmas.List.{length_push, drop_more, set_at, take_at, drop_at, drop-drop, take_rest, nil_from_length}
+use Rattle.fault.specs.Answers.{front}
 
 -- one entry more
-pub over_more : {X : Type 0} (strip : List X) (at : ℕ) (bs : List X) (x : X) → at + length bs < length strip → set (over strip at bs) (at + length bs) x ≡ over strip at (bs ++ (x ∷ []))
-over_more {X} strip at bs x h =
-    let n = at + length bs in
-    let p = take at strip ++ bs in
-    let ys = drop (n + 1) strip in
-    let lt : length (take at strip) ≡ at = length-take-le at strip (omega arith) in
-    let lp : length p ≡ n = length-append (take at strip) bs ∙ ap (λ (k : ℕ). k + length bs) lt in
+pub front_more : {X : Type 0} (strip bs : List X) (x : X) → length bs < length strip → set (front bs strip) (length bs) x ≡ front (bs ++ (x ∷ [])) strip
+front_more {X} strip bs x h =
+    let n = length bs in
     let d = drop_more strip n x h in
-    let a = append_assoc (take at strip) bs (get_or strip n x ∷ ys) in
-    let s = set_at p (get_or strip n x) ys x n lp in
-    let b = append_assoc (take at strip) bs (x ∷ ys) in
-    let e : at + length (bs ++ (x ∷ [])) ≡ n + 1 = omega (arith, length_push bs x) in
-    let f = append_assoc bs (x ∷ []) (drop (at + length (bs ++ (x ∷ []))) strip) in
+    let s = set_at bs (get_or strip n x) (drop (n + 1) strip) x n refl in
+    let f = append_assoc bs (x ∷ []) (drop (n + 1) strip) in
+    let l = length_push bs x in
     cc
 
--- a list after another
-pub over-over : {X : Type 0} (strip : List X) (at : ℕ) (bs cs : List X) → at ≤ length strip → over (over strip at bs) (at + length bs) cs ≡ over strip at (bs ++ cs)
-over-over {X} strip at bs cs h =
-    let n = at + length bs in
-    let p = take at strip ++ bs in
-    let lt = length-take-le at strip h in
-    let lp : length p ≡ n = length-append (take at strip) bs ∙ ap (λ (k : ℕ). k + length bs) lt in
-    let a : over strip at bs ≡ p ++ drop n strip = sym (append_assoc (take at strip) bs (drop n strip)) in
-    let t : take n (over strip at bs) ≡ p = ap (take n) a ∙ take_at p (drop n strip) n lp in
-    let d : drop (n + length cs) (over strip at bs) ≡ drop (n + length cs) strip =
-    sym (drop-drop (length cs) n (over strip at bs)) ∙ (ap (λ (l : List X). drop (length cs) (drop n l)) a ∙ (ap (drop (length cs)) (drop_at p (drop n strip) n lp) ∙ drop-drop (length cs) n strip)) in
-    let e : at + length (bs ++ cs) ≡ n + length cs = omega (arith, length-append bs cs) in
-    let f = append_assoc (take at strip) bs (cs ++ drop (n + length cs) strip) in
-    let g = append_assoc bs cs (drop (n + length cs) strip) in
-    cc
+-- a list after another, written to the rest of the strip
+pub front-front : {X : Type 0} (strip bs cs : List X) → take (length bs) (front bs strip) ++ front cs (drop (length bs) (front bs strip)) ≡ front (bs ++ cs) strip
+front-front {X} strip bs cs =
+    let n = length bs in
+    let t = take_at bs (drop n strip) n refl in
+    let d = drop_at bs (drop n strip) n refl in
+    let e : drop (length cs) (drop n strip) ≡ drop (length (bs ++ cs)) strip = drop-drop (length cs) n strip ∙ ap (λ (k : ℕ). drop k strip) (omega (arith, length-append bs cs)) in
+    let f = append_assoc bs cs (drop (length (bs ++ cs)) strip) in
+    rw (t, d, e) (sym f)
 
--- what is written from the first index on stands at the front
-pub over-front : {X : Type 0} (strip xs : List X) → over strip 0 xs ≡ front xs strip
-over-front strip xs = rw zero-add
+module _ {X : Type 0} (strip bs cs out : List X) (n : ℕ) (at : n ≡ length bs) (is : out ≡ front bs strip) (room : length (bs ++ cs) ≤ length strip) where
+  within : n + length cs ≤ length out
+  within = omega (arith, length-append bs cs, ap length is, length-append bs (drop (length bs) strip), length-drop (length bs) strip)
 
--- three lists, one after another, from the first index on
-module _ {X : Type 0} (was xs ys zs : List X) where
-  pub length_three : length (xs ++ (ys ++ zs)) ≡ length xs + length ys + length zs
-  length_three = omega (arith, length-append xs (ys ++ zs), length-append ys zs)
+  -- there is room for the list in the rest of the strip
+  pub rest_room : length cs ≤ length (take (length out - n) (drop n out))
+  rest_room = omega (arith, within, ap length (take_rest out n), length-drop n out)
 
-  pub over_three : (one two three : List X) (i j : ℕ) → i ≡ length xs → j ≡ i + length ys → one ≡ over was 0 xs → two ≡ over one i ys → three ≡ over two j zs → three ≡ front (xs ++ (ys ++ zs)) was
-  over_three one two three i j a b e f g =
-      let i' : i ≡ 0 + length xs = omega arith in
-      let j' : j ≡ 0 + length (xs ++ ys) = omega (arith, length-append xs ys) in
-      let second : two ≡ over was 0 (xs ++ ys) = f ∙ (rw (e, i') (over-over was 0 xs ys (omega arith))) in
-      let third : three ≡ over was 0 (xs ++ ys ++ zs) = g ∙ (rw (second, j') (over-over was 0 (xs ++ ys) zs (omega arith))) in
-      third ∙ (over-front was (xs ++ ys ++ zs) ∙ ap (λ (bs : List X). front bs was) (append_assoc xs ys zs))
+  -- and once it is written there, it stands after what stood at the front
+  pub front_put : (now : List X) → now ≡ front cs (take (length out - n) (drop n out)) → put_mid n (length out - n) out now ≡ front (bs ++ cs) strip
+  front_put now e =
+      let nothing : drop (length out - n) (drop n out) ≡ [] = nil_from_length _ (omega (arith, length-drop (length out - n) (drop n out), length-drop n out)) in
+      let rest : now ≡ front cs (drop n out) = e ∙ ap (front cs) (take_rest out n) in
+      let a : put_mid n (length out - n) out now ≡ take n out ++ front cs (drop n out) = rw (nothing, append-nil, rest) in
+      a ∙ (rw (is, at) (front-front strip bs cs))
+
+-- three lists, one after another
+pub length_three : {X : Type 0} (xs ys zs : List X) → length (xs ++ (ys ++ zs)) ≡ length xs + length ys + length zs
+length_three xs ys zs = omega (arith, length-append xs (ys ++ zs), length-append ys zs)
+
+module _ {X : Type 0} (was xs ys zs one now₁ : List X) (i j : ℕ) (at : i ≡ length xs) (count : j ≡ length ys) (is : one ≡ front xs was) (room : length (xs ++ (ys ++ zs)) ≤ length was) (put : now₁ ≡ front ys (take (length one - i) (drop i one))) where
+  abbrev two : List X
+  two = put_mid i (length one - i) one now₁
+
+  two-is : two ≡ front (xs ++ ys) was
+  two-is = front_put was xs ys one i at is (omega (arith, length_three xs ys zs, length-append xs ys)) now₁ put
+
+  j-at : i + j ≡ length (xs ++ ys)
+  j-at = omega (arith, length-append xs ys)
+
+  room' : length (xs ++ ys ++ zs) ≤ length was
+  room' = omega (arith, ap length (append_assoc xs ys zs))
+
+  pub third_room : length zs ≤ length (take (length two - (i + j)) (drop (i + j) two))
+  third_room = rest_room was (xs ++ ys) zs two (i + j) j-at two-is room'
+
+  pub third_put : (now₂ : List X) → now₂ ≡ front zs (take (length two - (i + j)) (drop (i + j) two)) → put_mid (i + j) (length two - (i + j)) two now₂ ≡ front (xs ++ (ys ++ zs)) was
+  third_put now₂ e = front_put was (xs ++ ys) zs two (i + j) j-at two-is room' now₂ e ∙ ap (λ (bs : List X). front bs was) (append_assoc xs ys zs)

@@ -1,11 +1,13 @@
 -- One item more of what is read, counted and written. Assumes nothing.
-use Rattle.std.proofs.Common.{◌≡◌, ℕ, zero, suc, ◌+◌, ◌-◌, ◌<◌, ◌≤◌, true, List, [], ◌∷◌, ◌++◌, length, get_or, take, drop, set, is_ok, Ok, Err, Result, sym, refl, ap, ◌∙◌, append_assoc, append-nil, arith, length-append}
-use Rattle.std.proofs.lemmas.List.{take_more, flat_map_more, take_more_set, drop-set-lt, length-take-le, take-append-drop, drop-drop}
-use Rattle.fault.specs.Refusals.{Refusal}
-use Rattle.fault.specs.Answers.{and_then, over, strip_after}
+use Rattle.std.proofs.Common.{◌≡◌, ℕ, zero, suc, ◌+◌, ◌-◌, ◌<◌, ◌≤◌, Bool, true, false, not, cond, Option, Some, None, List, [], ◌∷◌, ◌++◌, length, get_or, take, drop, set, is_ok, Ok, Err, Result, sym, refl, ap, ◌∙◌, append_assoc, append-nil, arith, length-append}
+use Rattle.std.proofs.lemmas.List.{take_more, flat_map_more, take_more_set, take_all}
+use Rattle.std.specs.List.{position_from}
+use Rattle.fault.specs.declared.Stop.{Stop}
+use Rattle.fault.specs.Refusals.{Refusal, refused_at}
+use Rattle.fault.specs.Checks.{each_fits}
+use Rattle.fault.specs.Answers.{and_then, strip_after}
 use Rattle.preset.specs.Answers.{Answer, many, passed}
 use Rattle.preset.specs.Items.{sent}
-use Rattle.preset.proofs.Fronts.{over-over}
 
 -- items before others that are read
 abbrev pub ahead : {X : Type 0} → List X → Answer (List X) → Answer (List X)
@@ -60,23 +62,13 @@ module _ {X : Type 0} (read : List ℕ → Answer X) where
       let t = take_more_set strip i x (omega arith) in
       cc
 
-  pub ahead_all : (n i : ℕ) (bs : List ℕ) (strip was : List X) (all : Answer (List X)) → i ≡ n → n ≤ length strip → drop i strip ≡ drop i was
-      → all ≡ ahead (take i strip) (many read (n - i) bs) → strip ≡ strip_after (λ p. p.0) was all
-  ahead_all n i bs strip was all e k d a =
+  pub ahead_all : (n i : ℕ) (bs : List ℕ) (xs was : List X) (all : Answer (List X)) → n ≤ i → length xs ≡ n
+      → all ≡ ahead (take i xs) (many read (n - i) bs) → xs ++ drop n was ≡ strip_after (λ p. p.0) was all
+  ahead_all n i bs xs was all k count a =
       let z : n - i ≡ 0 = omega arith in
-      let b : all ≡ Ok (take i strip ++ [], bs) = a ∙ rw z in
-      let c = append-nil (take i strip) in
-      let l = length-take-le i strip (omega arith) in
-      let t = take-append-drop i strip in
-      rw (b, c, l, sym d) (sym t)
-
--- what lies past the front stays
-pub past_more : {X : Type 0} (strip was : List X) (i : ℕ) (x : X) → drop i strip ≡ drop i was → drop (i + 1) (set strip i x) ≡ drop (i + 1) was
-past_more strip was i x d =
-    let a = drop-set-lt (i + 1) strip i x (omega arith) in
-    let b = drop-drop 1 i strip in
-    let c = drop-drop 1 i was in
-    cc
+      let t : take i xs ++ [] ≡ xs = append-nil (take i xs) ∙ take_all i xs (omega arith) in
+      let b : all ≡ Ok (xs, bs) = a ∙ rw (z, t) in
+      rw (b, count)
 
 module _ {X : Type 0} (sends : X → List ℕ) where
   -- the bytes of a front are no more than those of the whole
@@ -92,10 +84,20 @@ module _ {X : Type 0} (sends : X → List ℕ) where
     pub length-sent_more : length (sent sends (take (i + 1) xs)) ≡ length (sent sends (take i xs)) + length (sends x)
     length-sent_more = ap length sent_more ∙ length-append (sent sends (take i xs)) (sends x)
 
-    -- there is room for the item, and it goes after the others
-    module _ (was : List ℕ) (at : ℕ) (room : at + length (sent sends xs) ≤ length was) where
-      pub put-room : at + length (sent sends (take i xs)) + length (sends x) ≤ length was
-      put-room = omega (arith, length-sent_more, sent_front (i + 1) xs)
+    -- there is room for the item after the others
+    pub more_room : (room : ℕ) → length (sent sends xs) ≤ room → length (sent sends (take i xs) ++ sends x) ≤ room
+    more_room room h = omega (arith, ap length sent_more, sent_front (i + 1) xs)
 
-      pub put_more : over (over was at (sent sends (take i xs))) (at + length (sent sends (take i xs))) (sends x) ≡ over was at (sent sends (take (i + 1) xs))
-      put_more = over-over was at (sent sends (take i xs)) (sends x) (omega arith) ∙ ap (over was at) (sym sent_more)
+-- the answer of a test of each item, by the index of the first that is not allowed
+abbrev pub first_refused : Stop → Option ℕ → Result (Unit {0}) Refusal
+first_refused stop None = Ok tt
+first_refused stop (Some i) = Err (refused_at stop i)
+
+pub each_fits-is : {X : Type 0} (fits : X → Bool) (stop : Stop) (i : ℕ) (xs : List X) → each_fits fits stop i xs ≡ first_refused stop (position_from (λ x. not (fits x)) i xs)
+each_fits-is fits stop i [] = refl
+each_fits-is fits stop i (x ∷ xs) = each (fits x) (each_fits-is fits stop (i + 1) xs)
+  where
+    each : (t : Bool) → each_fits fits stop (i + 1) xs ≡ first_refused stop (position_from (λ y. not (fits y)) (i + 1) xs)
+        → cond t (each_fits fits stop (i + 1) xs) (Err (refused_at stop i)) ≡ first_refused stop (cond (not t) (Some i) (position_from (λ y. not (fits y)) (i + 1) xs))
+    each true e = e
+    each false e = refl

@@ -1,6 +1,6 @@
 // Entries of a density, as they stand in a preset: a signed and a plain part.
-ghost use Rattle.std.specs.Prelude.{◌≡◌, ◌+◌, ◌≤◌, length};
-ghost use Rattle.fault.specs.Answers.{over};
+ghost use Rattle.std.specs.Prelude.{◌≡◌, ◌≤◌, if◌then◌else◌, length, Some, None};
+ghost use Rattle.fault.specs.Answers.{front};
 ghost use Rattle.preset.specs.Entries.{signed_part, plain_end, signed_fits, plain_fits, fits, signed_read, plain_read, zig, zag, signed_number, plain_number, part_bytes, entry_bytes};
 ghost use Rattle.preset.specs.Inputs.{Reads};
 ghost use Rattle.preset.specs.Items.{entry_format};
@@ -78,8 +78,7 @@ fn read_plain(kind: ChargeKind, input: &mut Unread<'_>) -> Result<u64, Fault>
     let Some(end) = plain_below(kind) else {
         return Ok(0);
     };
-    let value = input.field(0, end, Stop::BadEntry)?;
-    Ok(value)
+    input.field(0, end, Stop::BadEntry)
 }
 
 fn fits_signed(kind: ChargeKind, value: i64) -> bool
@@ -101,31 +100,31 @@ fn fits_plain(kind: ChargeKind, value: u64) -> bool
 }
 
 // Whether the kind allows the entry.
-pub(crate) fn is_allowed(kind: ChargeKind, entry: Entry) -> bool
+fn is_allowed(kind: ChargeKind, entry: Entry) -> bool
     ensures { result ≡ fits kind entry }
 {
     fits_signed(kind, entry.signed) && fits_plain(kind, entry.plain)
+}
+
+// The entry, if the kind allows it.
+pub(crate) fn allowed(kind: ChargeKind, entry: Entry) -> Option<Entry>
+    ensures { result ≡ (if fits kind entry then Some entry else None) }
+{
+    is_allowed(kind, entry).then_some(entry)
 }
 
 // The number that the signed part is sent as, if the kind has one.
 fn signed_number(kind: ChargeKind, entry: Entry) -> Option<u64>
     ensures { result ≡ signed_number (signed_part kind) entry.signed }
 {
-    if has_signed(kind) {
-        Some(to_number(entry.signed))
-    } else {
-        None
-    }
+    has_signed(kind).then(|| to_number(entry.signed))
 }
 
 // The number that the plain part is sent as, if the kind has one.
 fn plain_number(kind: ChargeKind, entry: Entry) -> Option<u64>
     ensures { result ≡ plain_number (plain_end kind) entry.plain }
 {
-    match plain_below(kind) {
-        None => None,
-        Some(_) => Some(entry.plain),
-    }
+    plain_below(kind).map(|_| entry.plain)
 }
 
 // How many bytes a part takes.
@@ -133,21 +132,18 @@ fn part_len(part: Option<u64>) -> usize
     ensures count { result ≡ length (part_bytes part) }
     ensures bound { result ≤ 10 }
 {
-    match part {
-        None => 0,
-        Some(number) => spelt_len(number),
-    }
+    part.map_or(0, spelt_len)
 }
 
-// Writes a part from `at` on, where there is room, and answers the index after it.
-fn put_part(part: Option<u64>, out: &mut [u8], at: usize) -> usize
-    requires { at + length (part_bytes part) ≤ length out.old }
-    ensures end { result ≡ at + length (part_bytes part) }
-    ensures strip { out.new ≡ over out.old at (part_bytes part) }
+// Writes a part to the front of a strip, where there is room, and answers how many bytes it takes.
+fn put_part(part: Option<u64>, out: &mut [u8]) -> usize
+    requires { length (part_bytes part) ≤ length out.old }
+    ensures count { result ≡ length (part_bytes part) }
+    ensures strip { out.new ≡ front (part_bytes part) out.old }
 {
     match part {
-        None => at,
-        Some(number) => put_number(number, out, at),
+        None => 0,
+        Some(number) => put_number(number, out),
     }
 }
 
@@ -176,8 +172,8 @@ impl Encode for Entry {
         part_len(signed_number(shape.kind, self)) + part_len(plain_number(shape.kind, self))
     }
 
-    fn put(self, shape: Shape, out: &mut [u8], at: usize) -> usize {
-        let next = put_part(signed_number(shape.kind, self), out, at);
-        put_part(plain_number(shape.kind, self), out, next)
+    fn put(self, shape: Shape, out: &mut [u8]) -> usize {
+        let signed = put_part(signed_number(shape.kind, self), out);
+        signed + put_part(plain_number(shape.kind, self), &mut out[signed..])
     }
 }

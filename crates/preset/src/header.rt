@@ -73,9 +73,8 @@ impl Head {
         let place = input.place();
         let k = input.field(1, MOST_WIDTH + 1, Stop::BadWidth)?;
         word_count(q, n + k - 1).ok_or(Stop::TooManyWords.at(place))?;
-        let kind_number = u64::from(kind);
         let header = Header {
-            kind: kind_number,
+            kind: u64::from(kind),
             q,
             n,
             l,

@@ -1,6 +1,6 @@
 // Letters and entries alike: many items, one after another, read from bytes or written as bytes.
-ghost use Rattle.std.specs.Prelude.{◌≡◌, ℕ, ◌+◌, ◌≤◌, true, List, length, is_ok, Ok};
-ghost use Rattle.fault.specs.Answers.{plainly, over, strip_after};
+ghost use Rattle.std.specs.Prelude.{◌≡◌, ℕ, ◌≤◌, true, List, length, is_ok, Ok};
+ghost use Rattle.fault.specs.Answers.{plainly, front, strip_after};
 ghost use Rattle.fault.specs.Checks.{each_fits};
 ghost use Rattle.preset.specs.Answers.{many, passed};
 ghost use Rattle.preset.specs.Inputs.{Reads};
@@ -37,11 +37,11 @@ pub(crate) trait Encode: Copy {
         ensures count { result ≡ length (bytes shape self) }
         ensures bound { result ≤ 20 };
 
-    // Writes the bytes from `at` on, where there is room, and answers the index after them.
-    fn put(self, shape: Shape, out: &mut [u8], at: usize) -> usize
-        requires { at + length (bytes shape self) ≤ length out.old }
-        ensures end { result ≡ at + length (bytes shape self) }
-        ensures strip { out.new ≡ over out.old at (bytes shape self) };
+    // Writes the bytes to the front of a strip, where there is room, and answers how many there are.
+    fn put(self, shape: Shape, out: &mut [u8]) -> usize
+        requires { length (bytes shape self) ≤ length out.old }
+        ensures count { result ≡ length (bytes shape self) }
+        ensures strip { out.new ≡ front (bytes shape self) out.old };
 }
 
 // Passes over `count` items.
@@ -54,26 +54,25 @@ pub(crate) fn skip<T: Item>(shape: Shape, input: &mut Unread<'_>, count: usize) 
     Ok(())
 }
 
-// Reads an item that is there.
+// Reads an item that is there: the bytes are passed over once before, since a refusal leaves the strips as they were.
 fn read_there<T: Item>(shape: Shape, input: &mut Unread<'_>) -> T
     requires { is_ok (T.Item.format.reads shape input.old.whole input.old.bytes.now) ≡ true }
     ensures { Reads input.old input.new (Ok result) (T.Item.format.reads shape) }
 {
     let Ok(item) = T::read(shape, input) else {
-        unreachable()
+        unreachable!()
     };
     item
 }
 
 // Reads `count` items, which are there, into the front of the strip.
-pub(crate) fn fill<T: Item>(shape: Shape, input: Unread<'_>, strip: &mut [T], count: usize)
+pub(crate) fn fill<T: Item>(shape: Shape, mut input: Unread<'_>, strip: &mut [T], count: usize)
     requires room { count ≤ length strip.old }
     requires there { is_ok (many (T.Item.format.reads shape input.whole) count input.bytes.now) ≡ true }
     ensures { strip.new ≡ strip_after (λ p. p.0) strip.old (many (T.Item.format.reads shape input.entry.whole) count input.entry.bytes.now) }
 {
-    let mut input = input;
-    for i in 0..count {
-        strip[i] = read_there::<T>(shape, &mut input);
+    for item in &mut strip[..count] {
+        *item = read_there::<T>(shape, &mut input);
     }
 }
 
@@ -81,12 +80,10 @@ pub(crate) fn fill<T: Item>(shape: Shape, input: Unread<'_>, strip: &mut [T], co
 pub(crate) fn check<T: Item>(shape: Shape, items: &[T]) -> Result<(), Fault>
     ensures { plainly result ≡ each_fits (T.Item.format.fits shape) T.Item.format.stop 0 items.now }
 {
-    for (i, item) in items.iter().enumerate() {
-        if !item.fits(shape) {
-            return Err(T::stop().at(i));
-        }
+    match items.iter().position(|item| !item.fits(shape)) {
+        Some(i) => Err(T::stop().at(i)),
+        None => Ok(()),
     }
-    Ok(())
 }
 
 // How many bytes the items take.
@@ -95,6 +92,7 @@ pub(crate) fn total_len<T: Encode>(shape: Shape, items: &[T]) -> usize
     ensures count { result ≡ length (sent (T.Encode.bytes shape) items.now) }
     ensures bound { result ≤ 81920 }
 {
+    // A `for` and no `sum`, through which the bound on the total is not seen.
     let mut count = 0;
     for item in items {
         count += item.len(shape);
@@ -102,15 +100,15 @@ pub(crate) fn total_len<T: Encode>(shape: Shape, items: &[T]) -> usize
     count
 }
 
-// Writes the items from `at` on, where there is room, and answers the index after them.
-pub(crate) fn put_all<T: Encode>(shape: Shape, items: &[T], out: &mut [u8], at: usize) -> usize
-    requires { at + length (sent (T.Encode.bytes shape) items.now) ≤ length out.old }
-    ensures end { result ≡ at + length (sent (T.Encode.bytes shape) items.now) }
-    ensures strip { out.new ≡ over out.old at (sent (T.Encode.bytes shape) items.now) }
+// Writes the items to the front of a strip, where there is room, and answers how many bytes they take.
+pub(crate) fn put_all<T: Encode>(shape: Shape, items: &[T], out: &mut [u8]) -> usize
+    requires { length (sent (T.Encode.bytes shape) items.now) ≤ length out.old }
+    ensures count { result ≡ length (sent (T.Encode.bytes shape) items.now) }
+    ensures strip { out.new ≡ front (sent (T.Encode.bytes shape) items.now) out.old }
 {
-    let mut next = at;
+    let mut count = 0;
     for item in items {
-        next = item.put(shape, out, next);
+        count += item.put(shape, &mut out[count..]);
     }
-    next
+    count
 }

@@ -12,8 +12,7 @@ impl Item for u8 {
     ghost format = { letter_format };
 
     fn read(shape: Shape, input: &mut Unread<'_>) -> Result<u8, Fault> {
-        let value = input.field(0, shape.q as u64, Stop::BadLetter)?;
-        Ok(value as u8)
+        Ok(input.field(0, shape.q as u64, Stop::BadLetter)? as u8)
     }
 
     fn fits(self, shape: Shape) -> bool {
@@ -32,7 +31,7 @@ impl Encode for u8 {
         spelt_len(self as u64)
     }
 
-    fn put(self, _shape: Shape, out: &mut [u8], at: usize) -> usize {
-        put_number(self as u64, out, at)
+    fn put(self, _shape: Shape, out: &mut [u8]) -> usize {
+        put_number(self as u64, out)
     }
 }

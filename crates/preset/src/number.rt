@@ -1,6 +1,6 @@
 // Numbers: groups of seven bits, the highest first, each but the last in a byte with its top bit set.
 ghost use Rattle.std.specs.Prelude.{◌≡◌, ◌+◌, ◌<◌, ◌≤◌, length, IfOk, nat_lt};
-ghost use Rattle.fault.specs.Answers.{plainly, over};
+ghost use Rattle.fault.specs.Answers.{plainly, front};
 ghost use Rattle.preset.specs.Answers.{seen};
 ghost use Rattle.preset.specs.Numbers.{number as numeral, spell, high_bytes, number_end, spelling, spelt_over, NumberRefusals, NumberReadsBack, NumberSpellsBack};
 
@@ -27,26 +27,22 @@ pub fn read_number(input: &[u8], place: usize) -> Result<(u64, &[u8]), Fault>
     ensures rest { IfOk result (λ p. length p.1.now < length input.now) }
     ensures refusals { NumberRefusals }
 {
-    let [first, ..] = input else {
-        return Err(Stop::CutShort.at(place));
-    };
-    if *first == 0x80 {
+    if let [0x80, ..] = input {
         return Err(Stop::Misspelt.at(place));
     }
     let mut rest = input;
-    let mut high: u64 = 0;
-    for i in 0..MOST_BYTES {
+    let mut value: u64 = 0;
+    for _ in 0..MOST_BYTES {
         let [byte, tail @ ..] = rest else {
             return Err(Stop::CutShort.at(place));
         };
-        let value = high * 128 + (*byte % 128) as u64;
+        value = value * 128 + (*byte % 128) as u64;
         if ends_number(*byte) {
             if value > MOST_NUMBER {
                 return Err(Stop::Misspelt.at(place));
             }
             return Ok((value, tail));
         }
-        high = value;
         rest = tail;
     }
     Err(Stop::Misspelt.at(place))
@@ -57,36 +53,31 @@ pub(crate) fn spelt_len(value: u64) -> usize
     ensures count { result ≡ length (spell value) }
     ensures bound { result ≤ 10 }
 {
-    let mut count = 1;
-    let mut high = value / 128;
-    while high > 0 {
-        count += 1;
-        high /= 128;
-    }
-    count
+    // A byte for each seven of its bits.
+    value.max(1).ilog2() as usize / 7 + 1
 }
 
-// Writes the groups of `high` from `at` on, each with the top bit set, and answers the index after them.
-fn put_high(high: u64, out: &mut [u8], at: usize) -> usize
-    requires { at + length (high_bytes high) ≤ length out.old }
-    ensures end { result ≡ at + length (high_bytes high) }
-    ensures strip { out.new ≡ over out.old at (high_bytes high) }
+// Writes the groups of `high` to the front of a strip, each with the top bit set, and answers how many there are.
+fn put_high(high: u64, out: &mut [u8]) -> usize
+    requires { length (high_bytes high) ≤ length out.old }
+    ensures count { result ≡ length (high_bytes high) }
+    ensures strip { out.new ≡ front (high_bytes high) out.old }
 {
     if high == 0 {
-        return at;
+        return 0;
     }
-    let next = put_high(high / 128, out, at);
-    out[next] = 0x80 + (high % 128) as u8;
-    next + 1
+    let last = put_high(high / 128, out);
+    out[last] = 0x80 + (high % 128) as u8;
+    last + 1
 }
 
-// Writes a number from `at` on, where there is room, and answers the index after it.
-pub(crate) fn put_number(value: u64, out: &mut [u8], at: usize) -> usize
-    requires { at + length (spell value) ≤ length out.old }
-    ensures end { result ≡ at + length (spell value) }
-    ensures strip { out.new ≡ over out.old at (spell value) }
+// Writes a number to the front of a strip, where there is room, and answers how many bytes it takes.
+pub(crate) fn put_number(value: u64, out: &mut [u8]) -> usize
+    requires { length (spell value) ≤ length out.old }
+    ensures count { result ≡ length (spell value) }
+    ensures strip { out.new ≡ front (spell value) out.old }
 {
-    let last = put_high(value / 128, out, at);
+    let last = put_high(value / 128, out);
     out[last] = (value % 128) as u8;
     last + 1
 }
@@ -98,8 +89,8 @@ impl Encode for u64 {
         spelt_len(self)
     }
 
-    fn put(self, _shape: Shape, out: &mut [u8], at: usize) -> usize {
-        put_number(self, out, at)
+    fn put(self, _shape: Shape, out: &mut [u8]) -> usize {
+        put_number(self, out)
     }
 }
 
@@ -114,7 +105,7 @@ fn write_at(value: u64, out: &mut [u8], at: usize) -> Result<usize, Fault>
     if at > out.len() || out.len() - at < spelt_len(value) {
         return Err(Stop::ShortStrip.at(0));
     }
-    Ok(put_number(value, out, at))
+    Ok(at + put_number(value, &mut out[at..]))
 }
 
 // Writes a number from `at` on and answers the index after it. A value over the limit has no spelling.

@@ -55,8 +55,7 @@ fn find_parts_for(input: &[u8], letters: usize, entries: usize) -> Result<Scan<'
     if letters < STRIP || entries < STRIP {
         return Err(Stop::ShortStrip.at(0));
     }
-    let scan = find_parts(input)?;
-    Ok(scan)
+    find_parts(input)
 }
 
 // The second pass: the letters and the entries, which are there, go to the front of the strips.

@@ -5,8 +5,8 @@ ghost use Rattle.charge.specs.Ranges.{pitch_end, channel_bits};
 ghost use Rattle.preset.specs.Entries.{fits};
 ghost use Rattle.preset.specs.Sending.{Sending, voices_sending, pitch_sending, channels_sending, both_sending};
 
-use crate::entry::{Entry, is_allowed};
-use charge::{Both, CHANNEL_SETS, Channels, Charge, ChargeKind, PITCH_CLASSES, Pitch, Voices};
+use crate::entry::{Entry, allowed};
+use charge::{Both, Channels, Charge, ChargeKind, PITCH_CLASSES, Pitch, Voices};
 
 // A kind of charge that presets have. The member `sending` says which kind it is, and which entry a charge is
 // sent as.
@@ -39,10 +39,8 @@ fn pitch_of(plain: u64) -> Option<Pitch>
 fn channels_of(plain: u64) -> Option<Channels>
     ensures { option_map (λ c. c.bits) result ≡ (if nat_lt plain (2 ^ channel_bits) then Some plain else None) }
 {
-    if plain >= CHANNEL_SETS {
-        return None;
-    }
-    Some(Channels { bits: plain as u16 })
+    let bits = u16::try_from(plain).ok()?;
+    Some(Channels { bits })
 }
 
 impl Sent for Voices {
@@ -60,9 +58,7 @@ impl Sent for Voices {
     }
 
     fn from_entry(entry: Entry) -> Option<Voices> {
-        if !is_allowed(ChargeKind::Voices, entry) {
-            return None;
-        }
+        let entry = allowed(ChargeKind::Voices, entry)?;
         Some(Voices {
             count: entry.signed,
         })
@@ -84,9 +80,7 @@ impl Sent for Pitch {
     }
 
     fn from_entry(entry: Entry) -> Option<Pitch> {
-        if !is_allowed(ChargeKind::Pitch, entry) {
-            return None;
-        }
+        let entry = allowed(ChargeKind::Pitch, entry)?;
         pitch_of(entry.plain)
     }
 }
@@ -106,9 +100,7 @@ impl Sent for Channels {
     }
 
     fn from_entry(entry: Entry) -> Option<Channels> {
-        if !is_allowed(ChargeKind::Channels, entry) {
-            return None;
-        }
+        let entry = allowed(ChargeKind::Channels, entry)?;
         channels_of(entry.plain)
     }
 }
@@ -128,9 +120,7 @@ impl Sent for Both {
     }
 
     fn from_entry(entry: Entry) -> Option<Both> {
-        if !is_allowed(ChargeKind::Both, entry) {
-            return None;
-        }
+        let entry = allowed(ChargeKind::Both, entry)?;
         let pitch = pitch_of(entry.plain)?;
         let voices = Voices {
             count: entry.signed,

@@ -54,8 +54,7 @@ fn check_contents(head: Head, letters: &[u8], entries: &[Entry]) -> Result<(), F
 {
     let shape = head.shape();
     check::<u8>(shape, letters)?;
-    check::<Entry>(shape, entries)?;
-    Ok(())
+    check::<Entry>(shape, entries)
 }
 
 // Every test but the byte strip's.
@@ -91,17 +90,17 @@ fn preset_len(preset: &Loaded<'_>) -> usize
         + total_len::<Entry>(shape, preset.entries)
 }
 
-// Writes a preset to the front of the strip, where there is room, and answers how many bytes it took.
+// Writes a preset to the front of the strip, where there is room, and answers how many bytes it takes.
 fn put_preset(preset: &Loaded<'_>, out: &mut [u8]) -> usize
     requires { length (preset_bytes (preset_of preset.now)) ≤ length out.old }
-    ensures end { result ≡ length (preset_bytes (preset_of preset.now)) }
+    ensures count { result ≡ length (preset_bytes (preset_of preset.now)) }
     ensures strip { out.new ≡ front (preset_bytes (preset_of preset.now)) out.old }
 {
     let shape = preset.shape();
     let numbers = header_numbers(preset.header);
-    let after_header = put_all::<u64>(shape, &numbers, out, 0);
-    let after_letters = put_all::<u8>(shape, preset.letters, out, after_header);
-    put_all::<Entry>(shape, preset.entries, out, after_letters)
+    let header = put_all::<u64>(shape, &numbers, out);
+    let letters = header + put_all::<u8>(shape, preset.letters, &mut out[header..]);
+    letters + put_all::<Entry>(shape, preset.entries, &mut out[letters..])
 }
 
 // Writes a preset to the front of the byte strip and answers how many bytes it takes. Of strips that are longer

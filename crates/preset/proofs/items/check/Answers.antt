@@ -1,18 +1,21 @@
-use Rattle.std.proofs.Common.{sym, ◌∙◌}
-use Rattle.fault.proofs.Checks.{fits_more, fits-stop, fits_all}
+use Rattle.std.proofs.Common.{◌≡◌, not, rules, tests, sym, ap, ◌∙◌}
+use Rattle.std.proofs.lemmas.Iterator.{YieldsList-from_slice}
+use Rattle.std.proofs.lemmas.Iterator.Search.{position_from_yields_List}
+use Rattle.std.proofs.lemmas.Iterator.Adapters.{position_from-zero}
+use Rattle.std.specs.List.{position_from}
+use Rattle.preset.proofs.Turns.{first_refused, each_fits-is}
 use Rattle.preset.proofs.items.check.Goals as goal
 
-pub returns-then-not-fits : goal.returns-then-not-fits
-returns-then-not-fits g c =
+pub returns-in-Some : goal.returns-in-Some
+returns-in-Some g c =
     let F = g.T.Item.format in
-    rw (c.at.ensures, c.stop.ensures) (sym (c.loop-i.invariant ∙ fits-stop (F.fits c.args.shape) F.stop c.args.items.now c.loop-i.i c.index-items-i.result c.loop-i-test.true c.index-items-i.is (sym c.if-not-fits.ensures)))
+    let first : c.position.result ≡ position_from (λ x. not (F.fits c.args.shape x)) 0 c.args.items.now =
+    position_from_yields_List (λ x. not (F.fits c.args.shape x)) _ _ c.position.result c.position.ensures.ran (YieldsList-from_slice c.args.items.now cc) (λ x b q k. search (rules, tests)) ∙ position_from-zero (λ x. not (F.fits c.args.shape x)) c.args.items.now in
+    rw (c.at.ensures, c.stop.ensures) (ap (first_refused F.stop) (sym c.in-Some.is ∙ first) ∙ sym (each_fits-is (F.fits c.args.shape) F.stop 0 c.args.items.now))
 
-pub loop-i-preserved : goal.loop-i-preserved
-loop-i-preserved g c =
+pub returns-in-None : goal.returns-in-None
+returns-in-None g c =
     let F = g.T.Item.format in
-    c.loop-i.invariant ∙ fits_more (F.fits c.args.shape) F.stop c.args.items.now c.loop-i.i c.index-items-i.result c.loop-i-test.true c.index-items-i.is (sym c.if-not-fits.ensures)
-
-pub returns : goal.returns
-returns g c =
-    let F = g.T.Item.format in
-    sym (c.loop-i.invariant ∙ fits_all (F.fits c.args.shape) F.stop c.args.items.now c.loop-i.i c.loop-i-test.false)
+    let first : c.position.result ≡ position_from (λ x. not (F.fits c.args.shape x)) 0 c.args.items.now =
+    position_from_yields_List (λ x. not (F.fits c.args.shape x)) _ _ c.position.result c.position.ensures.ran (YieldsList-from_slice c.args.items.now cc) (λ x b q k. search (rules, tests)) ∙ position_from-zero (λ x. not (F.fits c.args.shape x)) c.args.items.now in
+    ap (first_refused F.stop) (sym c.in-None.is ∙ first) ∙ sym (each_fits-is (F.fits c.args.shape) F.stop 0 c.args.items.now)

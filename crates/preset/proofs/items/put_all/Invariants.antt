@@ -1,9 +1,9 @@
-use Rattle.std.proofs.Common.{◌≡◌, ◌+◌, length, take}
-use Rattle.fault.specs.Answers.{over}
+use Rattle.std.proofs.Common.{◌≡◌, length, take}
+use Rattle.fault.specs.Answers.{front}
 use Rattle.preset.specs.Items.{sent}
 use Rattle.preset.proofs.items.put_all.Given as goal
 
 abbrev pub invariant-loop-item : goal.invariant-loop-item
 invariant-loop-item g l =
     let bytes = sent (g.T.Encode.bytes l.shape) (take l.item-index l.items) in
-    (l.next ≡ l.at + length bytes) × (l.out ≡ over l.initial.out l.at bytes)
+    (l.count ≡ length bytes) × (l.out ≡ front bytes l.initial.out)

@@ -1,4 +1,4 @@
-use Rattle.std.proofs.Common.{ℕ, List, [], length, ap, arith}
+use Rattle.std.proofs.Common.{ℕ, List, length, ap, arith}
 use Rattle.charge.specs.declared.kind.ChargeKind.{ChargeKind}
 use Rattle.preset.specs.Entries.{entry_bytes}
 use Rattle.preset.specs.Items.{sent}
@@ -19,7 +19,7 @@ returns c =
     let p = c.args.preset.now in
     omega (
       arith,
-      length_three {X = ℕ} [] (sent spell (header_numbers p.header)) (sent spell p.letters.now) (sent (entry_bytes p.kind) p.entries.now),
+      length_three (sent spell (header_numbers p.header)) (sent spell p.letters.now) (sent (entry_bytes p.kind) p.entries.now),
       ap (λ (xs : List ℕ). length (sent spell xs)) c.header_numbers-numbers.ensures,
       ap (λ (k : ChargeKind). length (sent (entry_bytes k) p.entries.now)) c.shape-shape.ensures,
     )
