@@ -23,7 +23,7 @@ fn judge_parts<C: Printed, R: Rule + Drop, D: Density<C> + Drop, W: Write>(
     let q = rule.q();
     let m = rule.n().saturating_add(density.k()).saturating_sub(1);
     let mut strips = new_strips::<C>(heap, rooms, q, m)?;
-    match Draft::new::<C>(rule, density) {
+    match Draft::new(rule, density) {
         Err(refused) => write_fault(out, "refused", refused.fault),
         Ok(draft) => match draft.judge(&mut strips.crossings, &mut strips.ring) {
             Err(refused) => write_fault(out, "refused", refused.fault),

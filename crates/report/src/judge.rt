@@ -29,7 +29,7 @@ fn judge_parts<C: Charge, R: Rule + Drop, D: Density<C> + Drop>(
 ) -> Result<Option<Break<C>>, Fault>
     ensures { JudgeFinds C.Charge.kind (R.Rule.meaning rule) (D.Density.weights C.Charge.kind density) (judge_found C.Charge.kind C.Charge.equality (length crossings.old) (length ring.old) (R.Rule.meaning rule) (D.Density.weights C.Charge.kind density)) crossings.old crossings.new ring.old ring.new result }
 {
-    let verdict = Draft::new::<C>(rule, density)?.judge(crossings, ring)?;
+    let verdict = Draft::new(rule, density)?.judge(crossings, ring)?;
     Ok(break_of(verdict))
 }
 
