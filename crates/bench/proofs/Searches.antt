@@ -1,7 +1,10 @@
 -- What is found among the words of a label that keeps sizes of its own. Assumes nothing.
-use Rattle.std.proofs.Common.{◌≡◌, ℕ, ◌+◌, ◌-◌, ◌≤◌, max, List, length, take, drop, Some, None, Ok, Err, Option, Result, sym, refl, ap, ◌∙◌, subst, ap₂, arith, length-append, take_at}
+use Rattle.std.proofs.Common.{◌≡◌, ℕ, ◌+◌, ◌-◌, ◌^◌, ◌≤◌, max, List, length, take, drop, Some, None, Ok, Err, Option, Result, sym, refl, ap, ◌∙◌, subst, ap₂, arith, length-append, take_at}
 use Rattle.fault.specs.Answers.{and_then, front, strip_after}
-use Rattle.fault.specs.Refusals.{Refusal}
+use Rattle.fault.specs.declared.Stop.TheVariants.{ShortStrip}
+use Rattle.fault.specs.Limits.{most_words}
+use Rattle.fault.specs.Refusals.{Refusal, refused_at}
+use Rattle.std.proofs.lemmas.Bool.Decides.{nat_tests}
 use Rattle.charge.specs.Groups.{Kind, Equality}
 use Rattle.automaton.specs.Words.{Letters}
 use Rattle.automaton.specs.Making.{ring_checked, done}
@@ -13,8 +16,8 @@ use Rattle.criterion.specs.Search.{padding, crossings}
 use Rattle.criterion.specs.Strips.{FrontMeans}
 use Rattle.bench.specs.Labels.{rule_label_list, two_label, two_label_list, listed}
 use Rattle.bench.specs.Laws.{VerdictRight, ComparisonRight}
-use Rattle.bench.specs.Sized.{sized_rule, sized_density, first_sized, second_sized}
-use Rattle.bench.specs.Verdicts.{Ring, fitting, judge_found, compare_found}
+use Rattle.bench.specs.Sized.{SizesOf, sized_rule, sized_density, first_sized, second_sized}
+use Rattle.bench.specs.Verdicts.{Ring, bench_checked, fitting, judge_found, compare_found}
 use Rattle.bench.specs.declared.sizes.RuleSizes.{RuleSizes}
 use Rattle.bench.specs.declared.sizes.TwoSizes.{TwoSizes}
 use Rattle.bench.proofs.Rights.{fits, label-sizes, verdict_right, comparison_right}
@@ -32,6 +35,18 @@ module _ {C : Type 0} (K : Kind C) (E : Equality K.group) (a b : ℕ) (L M : Wei
   left_passed passed same x y z =
       subst (λ (u : Result (Unit {0}) Refusal). Left K (and_then u (λ _. examined K E padding M a b)) (crossings K padding M) said old new was now) (sym passed)
       (subst (λ (N : Weights K.group.Carrier). Left K (examined K E padding N a b) (crossings K padding N) said old new was now) same (record { answer = x; crossings = y; ring = z }))
+
+-- sizes that a rule and a density have are those of a bench
+pub sizes-pass : {A : Type 0} (s : RuleSizes) (r : Local) (d : Weights A) → SizesOf s r d → bench_checked r d ≡ Ok tt
+sizes-pass s r d sized =
+    let few : r.q ^ (r.n + d.k - 1) ≤ most_words = rw (sym sized.0, sym sized.1, sym sized.3, sym s.whole) s.words.sizes.4 in
+    let same : r.q ≡ d.q = sym sized.0 ∙ sized.4 in
+    grind (arith, nat_tests)
+
+-- what such a bench is refused by
+pub only_short : {C Y : Type 0} (K : Kind C) (E : Equality K.group) (a b : ℕ) (r : Local) (d : Weights K.group.Carrier) (h : Option (ℕ × List ℕ) → Y) (f : Refusal) → bench_checked r d ≡ Ok tt →
+    Err f ≡ and_then (judge_found K E a b r d) (λ x. Ok (h x)) → f ≡ refused_at ShortStrip 0
+only_short K E a b r d h f passed e = grind (arith, nat_tests)
 
 -- a label that keeps the sizes that its parts have is the label of its parts
 pub rule_list-same : {C : Type 0} (K : Kind C) (s : RuleSizes) (r : Local) (d : Weights K.group.Carrier) →

@@ -5,7 +5,6 @@ use Rattle.fault.specs.declared.Fault.{Fault}
 use Rattle.fault.specs.Refusals.{Refusal, refusal}
 use Rattle.charge.specs.Groups.{Kind}
 use Rattle.bench.specs.declared.state.Break.{Break}
-use Rattle.bench.specs.declared.state.Draft.{Draft}
 use Rattle.bench.specs.declared.state.Parts.{Parts}
 use Rattle.bench.specs.declared.state.Refused.{Refused}
 use Rattle.bench.specs.declared.state.Verdict.{Verdict}
@@ -29,7 +28,7 @@ likeness_means K None = agree
 likeness_means K (Some b) = differ (break_means K b)
 
 -- the answers of the calls, likewise
-abbrev pub judge_said : {C R D : Type 0} → (K : Kind C) → Result (Verdict C R D) (Refused (Draft R D)) → Result (Judgement K.group.Carrier) Refusal
+abbrev pub judge_said : {C R D S : Type 0} → (K : Kind C) → Result (Verdict C R D) (Refused S) → Result (Judgement K.group.Carrier) Refusal
 judge_said K (Ok v) = Ok (verdict_means K v)
 judge_said K (Err e) = Err (refusal e.fault)
 
@@ -45,19 +44,11 @@ abbrev pub found_said : {C : Type 0} → (K : Kind C) → Result (Option (Break 
 found_said K (Ok found) = Ok (breaks_mean K found)
 found_said K (Err f) = Err (refusal f)
 
-abbrev pub draft_said : {R D : Type 0} → Result (Draft R D) (Refused (Parts R D)) → Result (Unit {0}) Refusal
+abbrev pub draft_said : {X S : Type 0} → Result X (Refused S) → Result (Unit {0}) Refusal
 draft_said (Ok draft) = Ok tt
 draft_said (Err e) = Err (refusal e.fault)
 
--- the rule and the density that an answer hands on or back
+-- the rule and the density that a verdict hands on
 abbrev pub verdict_parts : {C R D : Type 0} → Verdict C R D → Parts R D
 verdict_parts (Holds h) = h.parts
 verdict_parts (Breaks h b) = h.parts
-
-abbrev pub judge_parts : {C R D : Type 0} → Result (Verdict C R D) (Refused (Draft R D)) → Parts R D
-judge_parts (Ok v) = verdict_parts v
-judge_parts (Err e) = e.state.parts
-
-abbrev pub draft_parts : {R D : Type 0} → Result (Draft R D) (Refused (Parts R D)) → Parts R D
-draft_parts (Ok draft) = draft.parts
-draft_parts (Err e) = e.state

@@ -21,6 +21,10 @@ first_sized s d = record { q = s.words.q; k = s.first; charges = d.charges }
 abbrev pub second_sized : {A : Type 0} → TwoSizes → Weights A → Weights A
 second_sized s d = record { q = s.words.q; k = s.second; charges = d.charges }
 
+-- the sizes are those of a rule and a density, which have one alphabet
+abbrev pub SizesOf : {A : Type 0} → RuleSizes → Local → Weights A → Type 0
+SizesOf s r d = (s.words.q ≡ r.q) × (s.n ≡ r.n) × (s.l ≡ r.l) × (s.k ≡ d.k) × (s.words.q ≡ d.q)
+
 pub listed_weighed : {A : Type 0} (q m : ℕ) (d : List ℕ → A) → DensitySizes q m → Weighed (listed q m d)
 listed_weighed q m d sizes = record { sizes = sizes; each = length-table (q ^ m) (λ c. d (word q m c)) }
 

@@ -41,11 +41,13 @@ fn common_words(q: usize, other: usize, m: usize) -> Result<usize, Fault>
 }
 
 impl RuleSizes {
+    ghost use Rattle.bench.specs.Sized.{SizesOf};
+
     // The sizes of the label of a rule under a density, where they make a bench.
     pub(crate) fn of<C: Charge, R: Rule, D: Density<C>>(
         parts: &Parts<R, D>,
     ) -> Result<RuleSizes, Fault>
-        ensures { MatchResult result (λ s. (bench_checked (R.meaning parts.now.rule) (D.weights C.kind parts.now.density) ≡ Ok tt) × (s.words.q ≡ (R.meaning parts.now.rule).q) × (s.n ≡ (R.meaning parts.now.rule).n) × (s.l ≡ (R.meaning parts.now.rule).l) × (s.k ≡ (D.weights C.kind parts.now.density).k) × (s.words.q ≡ (D.weights C.kind parts.now.density).q)) (λ f. bench_checked (R.meaning parts.now.rule) (D.weights C.kind parts.now.density) ≡ Err (refusal f)) }
+        ensures { MatchResult result (λ s. (bench_checked (R.meaning parts.now.rule) (D.weights C.kind parts.now.density) ≡ Ok tt) × (SizesOf s (R.meaning parts.now.rule) (D.weights C.kind parts.now.density))) (λ f. bench_checked (R.meaning parts.now.rule) (D.weights C.kind parts.now.density) ≡ Err (refusal f)) }
     {
         let q = parts.rule.q();
         let n = parts.rule.n();

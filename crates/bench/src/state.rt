@@ -1,7 +1,12 @@
 // The states of a bench, moved from call to call: drafted, and after its one verdict holding or breaking.
 ghost use Rattle.std.specs.Prelude.{◌≡◌};
+ghost use Rattle.bench.specs.Sized.{SizesOf};
 
+use crate::sizes::RuleSizes;
+use automaton::{Density, Rule};
+use charge::Charge;
 use fault::Fault;
+use std::marker::PhantomData;
 
 // A rule and a density.
 #[derive(Drop)]
@@ -10,10 +15,13 @@ pub struct Parts<R, D> {
     pub density: D,
 }
 
-// A bench that has not been judged.
+// A bench that has not been judged: a rule and a density over one alphabet, whose words are few.
 #[derive(Drop)]
-pub struct Draft<R, D> {
+pub struct Draft<C: Charge, R: Rule, D: Density<C>> {
     pub(crate) parts: Parts<R, D>,
+    pub(crate) sizes: RuleSizes,
+    pub(crate) kind: PhantomData<C>,
+    ghost sized: { SizesOf sizes (R.meaning parts.rule) (D.weights C.kind parts.density) },
 }
 
 // A bench on which no ring changes its total.

@@ -20,7 +20,7 @@ fn judged<C: Charge, R: Rule + Drop, D: Density<C> + Drop>(
     ring: &mut [u8],
     totals: &mut [C; 2],
 ) -> Said {
-    match Draft::new::<C>(rule, density) {
+    match Draft::new(rule, density) {
         Err(error) => refused(error.fault),
         Ok(draft) => match draft.judge(crossings, ring) {
             Err(error) => refused(error.fault),

@@ -51,7 +51,7 @@ fn judge_parts<C: Tried, R: Rule + Drop, D: Density<C> + Drop, W: Write>(
 ) -> Result<(), CaseError> {
     let m = rule.n().saturating_add(density.k()).saturating_sub(1);
     let mut strips = Strips::<C>::new(alloc, rooms, rule.q(), m)?;
-    let draft = Draft::new::<C>(rule, density)?;
+    let draft = Draft::new(rule, density)?;
     let verdict = draft.judge(&mut strips.crossings, &mut strips.ring)?;
     strips.write_found(out, "holds", "breaks", break_of(verdict))?;
     Ok(())

@@ -28,7 +28,7 @@ fn judge_parts<C: Charge, R: Rule + Drop, D: Density<C> + Drop>(
 ) -> Result<Option<Break<C>>, Fault>
     ensures { JudgeFinds C.kind (R.meaning rule) (D.weights C.kind density) (judge_found C.kind C.equality (length crossings.old) (length ring.old) (R.meaning rule) (D.weights C.kind density)) crossings.old crossings.new ring.old ring.new result }
 {
-    let verdict = Draft::new::<C>(rule, density)?.judge(crossings, ring)?;
+    let verdict = Draft::new(rule, density)?.judge(crossings, ring)?;
     Ok(break_of(verdict))
 }
 
