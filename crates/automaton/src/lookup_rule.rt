@@ -28,7 +28,8 @@ pub trait Lookup: Copy {
     ghost within: { (q n c : ℕ) → 1 ≤ q → c < q ^ n → place q n c < places q n };
 }
 
-// The sizes of a rule, and the letters that its answers are taken from.
+// The sizes of a rule, and the letters that its answers are taken from. It stands apart from the type of the lookup,
+// since a struct with a type parameter and ghost fields derives no `Clone`.
 #[derive(Clone, Copy)]
 struct Table<'a> {
     words: Words,
@@ -109,9 +110,5 @@ impl<'a, B: Lookup> LookupRule<'a, B> {
 fn letter_at(letters: &[u8], index: usize) -> u8
     ensures { result ≡ slice_index letters.now index }
 {
-    if index < letters.len() {
-        letters[index]
-    } else {
-        0
-    }
+    letters.get(index).copied().unwrap_or(0)
 }

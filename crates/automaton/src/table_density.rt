@@ -64,9 +64,5 @@ fn charge_at<C: Charge>(entries: &[C], index: usize) -> C
     ensures inside { index < length entries.now → result ≡ slice_index_or entries.now index result }
     ensures past { length entries.now ≤ index → C.kind.means result ≡ C.kind.group.zero }
 {
-    if index < entries.len() {
-        entries[index]
-    } else {
-        C::zero()
-    }
+    entries.get(index).copied().unwrap_or(C::zero())
 }
