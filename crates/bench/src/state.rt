@@ -38,7 +38,7 @@ pub struct Breaking<R, D> {
 
 // A failing word by its code, the length of the ring that shows it, and two totals of that ring: before and after one
 // step, or under the first density and the second.
-#[derive(Clone, Copy)]
+#[derive(Clone, Copy, PartialEq, Eq, Debug)]
 pub struct Break<C> {
     pub word: usize,
     pub len: usize,

@@ -28,10 +28,7 @@ fn voices_wrap(rt: HostRuntime) {
 
 // A pitch class, or the first where there is no such class.
 fn pitch(class: u8) -> Pitch {
-    match Pitch::new(class) {
-        Some(pitch) => pitch,
-        None => Pitch::zero(),
-    }
+    Pitch::new(class).unwrap_or(Pitch::zero())
 }
 
 #[test]

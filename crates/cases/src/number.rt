@@ -1,5 +1,5 @@
 // Single numbers.
-use fault::{Fault, Stop};
+use fault::Stop;
 use preset::{read_number, write_number};
 use std::test::Fail;
 
@@ -23,31 +23,19 @@ fn numbers_are_written(rt: HostRuntime) {
     assert_eq!(rt; strip, [0x8f, 0xff, 0xff, 0xff, 0x7f, 9]);
     assert_eq!(rt;
         write_number(4_294_967_295, &mut strip, 2),
-        Err(Fault {
-            stop: Stop::ShortStrip,
-            place: 0,
-        })
+        Err(Stop::ShortStrip.at(0))
     );
     assert_eq!(rt;
         write_number(4_294_967_296, &mut strip, 0),
-        Err(Fault {
-            stop: Stop::Misspelt,
-            place: 0,
-        })
+        Err(Stop::Misspelt.at(0))
     );
     assert_eq!(rt; strip, [0x8f, 0xff, 0xff, 0xff, 0x7f, 9]);
 }
 
 #[test]
 fn misspelt_and_cut_short(rt: HostRuntime) {
-    let misspelt = Fault {
-        stop: Stop::Misspelt,
-        place: 4,
-    };
-    let cut = Fault {
-        stop: Stop::CutShort,
-        place: 4,
-    };
+    let misspelt = Stop::Misspelt.at(4);
+    let cut = Stop::CutShort.at(4);
     assert_eq!(rt; read_number(&[0x80], 4), Err(misspelt));
     assert_eq!(rt; read_number(&[0x80, 0x00], 4), Err(misspelt));
     assert_eq!(rt;

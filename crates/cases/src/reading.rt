@@ -1,5 +1,5 @@
 // Presets read.
-use fault::Fault;
+use fault::Stop;
 use preset::{Entry, Header, STRIP, read_preset, read_whole};
 use std::test::Fail;
 
@@ -8,14 +8,12 @@ const NONE: Entry = Entry {
     plain: 7,
 };
 
-// The code and the place of a refusal, and 0 and 0 where the preset is read.
-fn refused(input: &[u8]) -> (u8, usize) {
+// The code and the place of the refusal, if the preset is refused.
+fn refused(input: &[u8]) -> Option<(u8, usize)> {
     let mut letters = [0u8; STRIP];
     let mut entries = [NONE; STRIP];
-    match read_whole(input, &mut letters, &mut entries) {
-        Ok(_) => (0, 0),
-        Err(fault) => (fault.stop.code(), fault.place),
-    }
+    let fault = read_whole(input, &mut letters, &mut entries).err()?;
+    Some((fault.stop.code(), fault.place))
 }
 
 #[test]
@@ -70,42 +68,38 @@ fn the_rest_is_handed_on(rt: HostRuntime) -> Result<(), Fail> {
 
 #[test]
 fn header_refusals(rt: HostRuntime) {
-    assert_eq!(rt; refused(&[0, 2, 0x81]), (1, 2));
-    assert_eq!(rt; refused(&[0, 2]), (1, 2));
-    assert_eq!(rt; refused(&[0, 2, 3, 0x80]), (2, 3));
-    assert_eq!(rt; refused(&[4, 2, 3]), (3, 0));
-    assert_eq!(rt; refused(&[0, 9]), (4, 1));
-    assert_eq!(rt; refused(&[0, 2, 13]), (5, 2));
-    assert_eq!(rt; refused(&[0, 2, 3, 3]), (6, 3));
-    assert_eq!(rt; refused(&[0, 2, 3, 1, 13]), (7, 4));
-    assert_eq!(rt; refused(&[0, 8, 4, 1, 2]), (9, 4));
+    assert_eq!(rt; refused(&[0, 2, 0x81]), Some((1, 2)));
+    assert_eq!(rt; refused(&[0, 2]), Some((1, 2)));
+    assert_eq!(rt; refused(&[0, 2, 3, 0x80]), Some((2, 3)));
+    assert_eq!(rt; refused(&[4, 2, 3]), Some((3, 0)));
+    assert_eq!(rt; refused(&[0, 9]), Some((4, 1)));
+    assert_eq!(rt; refused(&[0, 2, 13]), Some((5, 2)));
+    assert_eq!(rt; refused(&[0, 2, 3, 3]), Some((6, 3)));
+    assert_eq!(rt; refused(&[0, 2, 3, 1, 13]), Some((7, 4)));
+    assert_eq!(rt; refused(&[0, 8, 4, 1, 2]), Some((9, 4)));
 }
 
 #[test]
 fn body_refusals(rt: HostRuntime) {
-    assert_eq!(rt; refused(&[0, 2, 1, 0, 1, 0, 1, 0, 2]), (0, 0));
-    assert_eq!(rt; refused(&[0, 2, 1, 0, 1, 0, 1, 0, 2, 0x80]), (10, 9));
-    assert_eq!(rt; refused(&[0, 2, 1, 0, 1, 0, 2, 0, 2]), (14, 6));
-    assert_eq!(rt; refused(&[1, 2, 1, 0, 1, 0, 1, 0, 12]), (15, 8));
+    assert_eq!(rt; refused(&[0, 2, 1, 0, 1, 0, 1, 0, 2]), None);
+    assert_eq!(rt; refused(&[0, 2, 1, 0, 1, 0, 1, 0, 2, 0x80]), Some((10, 9)));
+    assert_eq!(rt; refused(&[0, 2, 1, 0, 1, 0, 2, 0, 2]), Some((14, 6)));
+    assert_eq!(rt; refused(&[1, 2, 1, 0, 1, 0, 1, 0, 12]), Some((15, 8)));
     assert_eq!(rt;
         refused(&[2, 2, 1, 0, 1, 0, 1, 0x84, 0x80, 0x00, 0]),
-        (15, 7)
+        Some((15, 7))
     );
-    assert_eq!(rt; refused(&[3, 2, 1, 0, 1, 0, 1, 0, 0, 0, 12]), (15, 10));
+    assert_eq!(rt;
+        refused(&[3, 2, 1, 0, 1, 0, 1, 0, 0, 0, 12]),
+        Some((15, 10))
+    );
 }
 
 #[test]
-fn short_strips(rt: HostRuntime) -> Result<(), Fail> {
+fn short_strips(rt: HostRuntime) {
     let mut letters = [7u8; 4095];
     let mut entries = [NONE; STRIP];
-    match read_whole(&[0x80], &mut letters, &mut entries) {
-        Ok(_) => {
-            assert!(rt; false);
-            Ok(())
-        },
-        Err(fault) => {
-            assert_eq!(rt; (fault.stop.code(), fault.place), (12, 0));
-            Ok(())
-        },
-    }
+    let answer = read_whole(&[0x80], &mut letters, &mut entries);
+    assert_eq!(rt; answer, Err(Stop::ShortStrip.at(0)));
+    assert_eq!(rt; Stop::ShortStrip.code(), 12);
 }

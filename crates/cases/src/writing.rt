@@ -1,5 +1,4 @@
 // Presets written.
-use fault::Fault;
 use preset::{Entry, Header, write_preset};
 
 const RULE_184: [u8; 8] = [0, 0, 0, 1, 1, 1, 0, 1];
@@ -23,18 +22,20 @@ const VOICES: Header = Header {
     k: 1,
 };
 
-// The code and the place of a refusal, and 0 and the length where the preset is written.
-fn written(header: Header, letters: &[u8], entries: &[Entry], out: &mut [u8]) -> (u8, usize) {
-    match write_preset(header, letters, entries, out) {
-        Ok(len) => (0, len),
-        Err(fault) => (fault.stop.code(), fault.place),
-    }
+// How many bytes were written, or the code and the place of the refusal.
+fn written(
+    header: Header,
+    letters: &[u8],
+    entries: &[Entry],
+    out: &mut [u8],
+) -> Result<usize, (u8, usize)> {
+    write_preset(header, letters, entries, out).map_err(|fault| (fault.stop.code(), fault.place))
 }
 
 #[test]
 fn rule_184(rt: HostRuntime) {
     let mut out = [9u8; 16];
-    assert_eq!(rt; written(VOICES, &RULE_184, &WEIGHTS, &mut out), (0, 15));
+    assert_eq!(rt; written(VOICES, &RULE_184, &WEIGHTS, &mut out), Ok(15));
     assert_eq!(rt; out, [0, 2, 3, 1, 1, 0, 0, 0, 1, 1, 1, 0, 1, 0, 2, 9]);
 }
 
@@ -54,7 +55,7 @@ fn header_refusals(rt: HostRuntime) {
             &WEIGHTS,
             &mut out,
         ),
-        (3, 0)
+        Err((3, 0))
     );
     assert_eq!(rt;
         written(
@@ -69,7 +70,7 @@ fn header_refusals(rt: HostRuntime) {
             &WEIGHTS,
             &mut out,
         ),
-        (4, 0)
+        Err((4, 0))
     );
     assert_eq!(rt;
         written(
@@ -84,7 +85,7 @@ fn header_refusals(rt: HostRuntime) {
             &WEIGHTS,
             &mut out,
         ),
-        (5, 0)
+        Err((5, 0))
     );
     assert_eq!(rt;
         written(
@@ -99,7 +100,7 @@ fn header_refusals(rt: HostRuntime) {
             &WEIGHTS,
             &mut out,
         ),
-        (6, 0)
+        Err((6, 0))
     );
     assert_eq!(rt;
         written(
@@ -114,7 +115,7 @@ fn header_refusals(rt: HostRuntime) {
             &WEIGHTS,
             &mut out,
         ),
-        (7, 0)
+        Err((7, 0))
     );
     assert_eq!(rt;
         written(
@@ -129,7 +130,7 @@ fn header_refusals(rt: HostRuntime) {
             &WEIGHTS,
             &mut out,
         ),
-        (9, 0)
+        Err((9, 0))
     );
     assert_eq!(rt; out, [9; 16]);
 }
@@ -139,15 +140,15 @@ fn strip_refusals(rt: HostRuntime) {
     let mut out = [9u8; 14];
     assert_eq!(rt;
         written(VOICES, &RULE_184[0..7], &WEIGHTS, &mut out),
-        (12, 0)
+        Err((12, 0))
     );
     assert_eq!(rt;
         written(VOICES, &RULE_184, &WEIGHTS[0..1], &mut out),
-        (12, 0)
+        Err((12, 0))
     );
     assert_eq!(rt;
         written(VOICES, &[0, 0, 2, 1, 1, 1, 0, 3], &WEIGHTS, &mut out),
-        (14, 2)
+        Err((14, 2))
     );
     let heavy = [
         Entry {
@@ -159,7 +160,7 @@ fn strip_refusals(rt: HostRuntime) {
             plain: 0,
         },
     ];
-    assert_eq!(rt; written(VOICES, &RULE_184, &heavy, &mut out), (15, 1));
+    assert_eq!(rt; written(VOICES, &RULE_184, &heavy, &mut out), Err((15, 1)));
     let mixed = [
         Entry {
             signed: 0,
@@ -170,7 +171,10 @@ fn strip_refusals(rt: HostRuntime) {
             plain: 0,
         },
     ];
-    assert_eq!(rt; written(VOICES, &RULE_184, &mixed, &mut out), (15, 0));
-    assert_eq!(rt; written(VOICES, &RULE_184, &WEIGHTS, &mut out), (12, 0));
+    assert_eq!(rt; written(VOICES, &RULE_184, &mixed, &mut out), Err((15, 0)));
+    assert_eq!(rt;
+        written(VOICES, &RULE_184, &WEIGHTS, &mut out),
+        Err((12, 0))
+    );
     assert_eq!(rt; out, [9; 14]);
 }
