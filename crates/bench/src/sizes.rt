@@ -11,6 +11,7 @@ use fault::limits::word_count;
 use fault::{Fault, Stop};
 
 // The sizes of the label of a rule under a density: its words, the rule's window and reach, and the density's width.
+// A label keeps sizes of its own, since its laws are for every `Kind` of its charges, and the tests for one.
 #[derive(Clone, Copy)]
 pub struct RuleSizes {
     pub(crate) words: Words,

@@ -12,7 +12,8 @@ use fault::Fault;
 // The longest ring that is shown: a word of 12 letters and 11 zeros.
 pub const MOST_SHOWN: usize = 23;
 
-// Writes the word of a code, of as many letters as there is room for.
+// Writes the word of a code, of as many letters as there is room for. The range is reversed, and not the slots: of
+// reversed slots a proof knows nothing.
 fn write_word(q: usize, code: usize, letters: &mut [u8])
     requires { (1 ≤ q) × (q ≤ 8) }
     ensures { letters.new ≡ word q (length letters.old) code }
