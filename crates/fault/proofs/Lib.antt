@@ -1,2 +1,1 @@
-pub mod Checks
 pub mod Powers

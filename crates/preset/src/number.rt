@@ -109,6 +109,7 @@ fn write_at(value: u64, out: &mut [u8], at: usize) -> Result<usize, Fault>
 }
 
 // Writes a number from `at` on and answers the index after it. A value over the limit has no spelling.
+#[tactic(auto, using(crate::proofs::NumberLaws::number_reads_back, crate::proofs::NumberLaws::number_spells_back))]
 pub fn write_number(value: u64, out: &mut [u8], at: usize) -> Result<usize, Fault>
     ensures answer { plainly result ≡ number_end out.old at value }
     ensures strip { out.new ≡ spelt_over out.old at (spelling out.old at value) }

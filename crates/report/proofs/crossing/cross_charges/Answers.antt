@@ -1,4 +1,4 @@
-use Rattle.std.proofs.Common.{◌≡◌, ◌^◌, ◌≤◌, map, length, refl, sym, ap, ◌∙◌, subst, arith}
+use Rattle.std.proofs.Common.{◌^◌, ◌≤◌, map, length, refl, sym, ap, ◌∙◌, subst, arith}
 use Rattle.fault.specs.Limits.{most_words}
 use Rattle.charge.specs.declared.kind.ChargeKind.{ChargeKind}
 use Rattle.report.specs.Texts.{Shape, shape_of}

@@ -1,5 +1,4 @@
-use Rattle.std.proofs.Common.{ℕ, ◌+◌, length, drop, sym, ap, ◌∙◌, arith, length-drop}
-use Rattle.std.proofs.lemmas.List.{take_rest}
+use Rattle.std.proofs.Common.{ℕ, ◌+◌, drop, sym, ap, ◌∙◌, arith}
 use Rattle.console.specs.Words.{next_word}
 use Rattle.console.proofs.Passing.{past-newline, past-blank, at-word, at_end}
 use Rattle.console.proofs.place.Place.next_word.Goals as goal
