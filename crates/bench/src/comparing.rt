@@ -59,7 +59,8 @@ fn compare_on<C: Charge, D: Density<C>, E: Density<C>>(
 }
 
 // The word that fails and the ring that shows it, if some ring of any length has two totals. Fills the front of one
-// strip with the crossings, and where the densities differ writes that ring to the front of the other.
+// strip with the crossings, and where the densities differ writes that ring to the front of the other. The strips make
+// no struct, as for the judge.
 pub fn compare<C: Charge, D: Density<C>, E: Density<C>>(
     first: &D,
     second: &E,

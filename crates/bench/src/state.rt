@@ -46,7 +46,7 @@ pub struct Break<C> {
     pub second: C,
 }
 
-// The bench in its next state.
+// The bench in its next state. An enum of its own, since neither case is an error, as one would be in a `Result`.
 #[derive(Drop)]
 pub enum Verdict<C, R, D> {
     Holds(Holding<R, D>),

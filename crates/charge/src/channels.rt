@@ -19,6 +19,7 @@ fn symmetric_difference(a: u16, b: u16) -> u16
     a ^ b
 }
 
+// Stands by itself so that the check proves it with no answer, and refuses an edit of it here.
 fn equal_sets(a: u16, b: u16) -> bool
     ensures { Decides result (a ≡ b) }
 {

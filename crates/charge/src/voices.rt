@@ -28,6 +28,7 @@ fn wrapped_opposite(a: i64) -> i64
     a.wrapping_neg()
 }
 
+// Stands by itself so that the check proves it with no answer, and refuses an edit of it here.
 fn equal_counts(a: i64, b: i64) -> bool
     ensures { Decides result (a ≡ b) }
 {

@@ -12,7 +12,7 @@ const KINDS: [ChargeKind; 4] = [
     ChargeKind::Both,
 ];
 
-// The name of a kind.
+// The name of a kind. No `Display` in `charge`, since a page is read by comparing the names as bytes.
 pub fn kind_name(kind: ChargeKind) -> &'static str
     ensures { result.now ≡ kind_text kind }
 {

@@ -5,7 +5,7 @@ ghost use Rattle.std.specs.List.{prefix_len};
 ghost use Rattle.std.specs.Str.{bytes_eq};
 ghost use Rattle.console.specs.Words.{blank, belongs, front as front_of, after as after_of, words as words_of, words_left, rejoined};
 
-// Which bytes a front of a text may have.
+// Which bytes a front of a text may have. An enum and no closure, since a clause can say which bytes belong to it.
 #[derive(Clone, Copy)]
 pub(crate) enum Class {
     Blank,

@@ -42,7 +42,8 @@ fn rows_text(alloc: Global, rule: &str, density: &str, bytes: usize) -> Result<S
     format!(in alloc; "rule{rule}\ndensity{density}\nbytes {bytes}\n")
 }
 
-// The page of a preset: one line for each part. What is written so is read as the same preset.
+// The page of a preset: one line for each part. What is written so is read as the same preset. The parts are no
+// `Loaded`, since they may be of any header.
 pub fn page(
     alloc: Global,
     kind: ChargeKind,

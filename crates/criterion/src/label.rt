@@ -7,6 +7,7 @@ use automaton::Density;
 use charge::Charge;
 
 // A label. The member `labels` is the alphabet size q, the number m of letters and the list of what the charges mean.
+// It is no `Density`, though the members of both are alike, so that neither can be handed over for the other.
 pub trait Label<C: Charge> {
     ghost labels: { (K : Kind C) → Self → Weights K.group.Carrier };
 

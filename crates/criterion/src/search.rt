@@ -83,7 +83,8 @@ fn check_room<C: Charge, L: Label<C>>(
 }
 
 // Fills the front of a strip with the crossings of a label. If a word fails, answers the one with the smallest code,
-// and writes the ring that shows it to the front of another strip.
+// and writes the ring that shows it to the front of another strip. The two strips make no struct, through which clauses
+// would reach each of them by two references.
 pub fn examine<C: Charge, L: Label<C>>(
     label: &L,
     crossings: &mut [C],

@@ -43,7 +43,7 @@ fn plain_below(kind: ChargeKind) -> Option<u64>
     }
 }
 
-// The number that a signed value is sent as.
+// The number that a signed value is sent as. No `From`, since both types are the language's.
 fn to_number(value: i64) -> u64
     ensures { result ≡ zig value }
 {

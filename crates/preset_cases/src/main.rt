@@ -4,6 +4,7 @@
 
 ghost use Rattle.std.specs.Prelude.{◌<◌};
 
+use automaton::ShownLetters;
 use fault::Fault;
 use preset::{Entry, Header, STRIP, read_preset, read_whole, write_preset};
 use std::alloc::{AllocError, Global};
@@ -51,13 +52,6 @@ fn decode(alloc: Global, text: &[u8]) -> Result<Vec<u8>, AllocError> {
     Ok(bytes)
 }
 
-fn write_letters<W: Write>(out: &mut W, letters: &[u8]) -> io::Result<()> {
-    for letter in letters {
-        write!(out, "{letter}")?;
-    }
-    Ok(())
-}
-
 fn write_entries<W: Write>(out: &mut W, entries: &[Entry]) -> io::Result<()> {
     for (i, entry) in entries.iter().enumerate() {
         let comma = if i > 0 { "," } else { "" };
@@ -85,11 +79,13 @@ fn write_contents<W: Write>(
     write!(out, " {kind} {q} {n} {l} {k} ")?;
     let letters = header.letter_count().unwrap_or(0).min(strips.letters.len());
     let entries = header.entry_count().unwrap_or(0).min(strips.entries.len());
-    write_letters(out, &strips.letters[0..letters])?;
-    write!(out, " ")?;
-    write_entries(out, &strips.entries[0..entries])?;
+    let letters = ShownLetters {
+        letters: &strips.letters[..letters],
+    };
+    write!(out, "{letters} ")?;
+    write_entries(out, &strips.entries[..entries])?;
     let back = match write_preset(header, &strips.letters, &strips.entries, &mut strips.bytes) {
-        Ok(len) => len <= strips.bytes.len() && input.starts_with(&strips.bytes[0..len]),
+        Ok(len) => len <= strips.bytes.len() && input.starts_with(&strips.bytes[..len]),
         Err(_) => false,
     };
     let word = if back { "back" } else { "differs" };

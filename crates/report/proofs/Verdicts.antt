@@ -9,10 +9,10 @@ use Rattle.charge.specs.Groups.{Kind}
 use Rattle.automaton.specs.Meanings.{Weights}
 use Rattle.criterion.specs.Answers.{ring_written}
 use Rattle.preset.specs.Sending.{Sending}
+use Rattle.preset.specs.declared.entry.Entry.{Entry}
 use Rattle.bench.specs.declared.state.Break.{Break}
 use Rattle.bench.specs.Answers.{found_said}
 use Rattle.bench.specs.Verdicts.{Broken, broken}
-use Rattle.report.specs.declared.line.Finding.{Finding}
 use Rattle.report.specs.declared.line.Line.{Line}
 use Rattle.report.specs.declared.line.Question.{Question}
 use Rattle.report.specs.Texts.{Shape}
@@ -59,9 +59,9 @@ module _ {C : Type 0} (K : Kind C) (S : Sending C) (first second : List ℕ → 
       ap (λ (xs : List ℕ). finding_text question subject shape xs (sent_break S b)) (cut ∙ sym all)
 
   module _ (label : Weights K.group.Carrier) (Right : Result (Option (ℕ × List ℕ)) Refusal → Type 0) (old new : List C) (strip ring : List ℕ) (answer : Result (Option (Break C)) Fault)
-      (finds : Finds K label first second Right found old new strip ring answer) (sent : Result (Option Finding) Fault) (is : sent ≡ sent_found S answer) where
+      (finds : Finds K label first second Right found old new strip ring answer) (sent : Result (Option (Break Entry)) Fault) (is : sent ≡ sent_found S answer) where
     pub finds_fit : ring_fits sent ring
-    finds_fit = subst (λ (r : Result (Option Finding) Fault). ring_fits r ring) (sym is) (fits_on answer strip ring finds.said finds.shown)
+    finds_fit = subst (λ (r : Result (Option (Break Entry)) Fault). ring_fits r ring) (sym is) (fits_on answer strip ring finds.said finds.shown)
 
     pub told : (question : Question) (subject : List ℕ) (shape to : Shape) → shape ≡ to → (l : Line) → LineIs (verdict_text question subject shape ring sent) (verdict_good sent) l
         → VerdictLine K S question subject to first second Right found l

@@ -10,9 +10,9 @@ use Rattle.automaton.specs.Meanings.{Local, Weights, next, total}
 use Rattle.criterion.specs.Answers.{ring_written, unless_refused}
 use Rattle.criterion.specs.Search.{padding, crossings}
 use Rattle.criterion.specs.Strips.{FrontMeans}
+use Rattle.preset.specs.declared.entry.Entry.{Entry}
 use Rattle.preset.specs.declared.header.Header.{Header}
 use Rattle.preset.specs.Sending.{Sending}
-use Rattle.report.specs.declared.line.Finding.{Finding}
 use Rattle.bench.specs.declared.state.Break.{Break}
 use Rattle.bench.specs.declared.state.Verdict.{Verdict}
 use Rattle.bench.specs.declared.state.Verdict.TheVariants.{Holds, Breaks}
@@ -65,10 +65,10 @@ module _ {C : Type 0} (K : Kind C) (E : Equality K.group) (crossing_room ring_ro
       compare_found K E crossing_room ring_room (preset_density K h charges) (preset_density K h' charges')))
 
 -- a break with its totals as entries, and what was found likewise
-abbrev pub sent_break : {C : Type 0} → Sending C → Break C → Finding
+abbrev pub sent_break : {C : Type 0} → Sending C → Break C → Break Entry
 sent_break S b = record { word = b.word; len = b.len; first = S.entry b.first; second = S.entry b.second }
 
-abbrev pub sent_found : {C : Type 0} → Sending C → Result (Option (Break C)) Fault → Result (Option Finding) Fault
+abbrev pub sent_found : {C : Type 0} → Sending C → Result (Option (Break C)) Fault → Result (Option (Break Entry)) Fault
 sent_found S (Ok None) = Ok None
 sent_found S (Ok (Some b)) = Ok (Some (sent_break S b))
 sent_found S (Err f) = Err f

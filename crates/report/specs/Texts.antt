@@ -7,7 +7,7 @@ use Rattle.automaton.specs.Shown.{digits}
 use Rattle.automaton.specs.Words.{word}
 use Rattle.preset.specs.declared.entry.Entry.{Entry}
 use Rattle.console.specs.Forms.{entry_text}
-use Rattle.report.specs.declared.line.Finding.{Finding}
+use Rattle.bench.specs.declared.state.Break.{Break}
 use Rattle.report.specs.declared.line.Question.{Question}
 use Rattle.report.specs.declared.line.Question.TheVariants.{Judge, Compare}
 use Rattle.report.specs.declared.line.Shape.{Shape as ShapeOf}
@@ -42,24 +42,24 @@ shown_text question subject word ring first second =
     subject ++ (codes "\t" ++ (bad_word question ++ (codes "\t" ++ (word ++ (codes "\t" ++ (ring ++ (codes "\t" ++ (first ++ (codes "\t" ++ second)))))))))
 
 -- a failing word, the ring that shows it, and its two totals
-abbrev pub finding_text : Question → List ℕ → Shape → List ℕ → Finding → List ℕ
+abbrev pub finding_text : Question → List ℕ → Shape → List ℕ → Break Entry → List ℕ
 finding_text question subject shape ring f =
     shown_text question subject (digits (word shape.q shape.m f.word)) (digits ring) (entry_text shape.kind f.first) (entry_text shape.kind f.second)
 
 -- what was found, with a strip that begins with the ring that shows it
-abbrev pub verdict_text : Question → List ℕ → Shape → List ℕ → Result (Option Finding) Fault → List ℕ
+abbrev pub verdict_text : Question → List ℕ → Shape → List ℕ → Result (Option (Break Entry)) Fault → List ℕ
 verdict_text question subject shape strip (Ok None) = kept_text question subject
 verdict_text question subject shape strip (Ok (Some f)) = finding_text question subject shape (take f.len strip) f
 verdict_text question subject shape strip (Err f) = refused_text subject (refusal f)
 
 -- the answer is yes
-abbrev pub verdict_good : Result (Option Finding) Fault → Bool
+abbrev pub verdict_good : Result (Option (Break Entry)) Fault → Bool
 verdict_good (Ok None) = true
 verdict_good (Ok (Some f)) = false
 verdict_good (Err f) = false
 
 -- the ring that shows a failing word is on the strip
-abbrev pub ring_fits : Result (Option Finding) Fault → List ℕ → Type 0
+abbrev pub ring_fits : Result (Option (Break Entry)) Fault → List ℕ → Type 0
 ring_fits (Ok None) strip = Unit {0}
 ring_fits (Ok (Some f)) strip = f.len ≤ length strip
 ring_fits (Err f) strip = Unit {0}

@@ -57,7 +57,7 @@ fn compare_charges<C: Sent>(
     asked.line(alloc, &ring, sent_found(found))
 }
 
-// The line of two presets of the first one's kind.
+// The line of two presets of the first one's kind, by cases as for one preset.
 fn compare_kind(
     alloc: Global,
     subject: &str,

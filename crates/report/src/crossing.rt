@@ -62,7 +62,7 @@ fn cross_charges<C: Sent>(alloc: Global, preset: Loaded<'_>) -> Result<Line, Sho
     Ok(page_line(alloc, crossing_shape(preset), crossings, found)?)
 }
 
-// The page of a preset of any kind.
+// The page of a preset of any kind, by cases as for its verdict.
 fn cross_kind(alloc: Global, preset: Loaded<'_>) -> Result<Line, ShowError>
     ensures { IfSome (unless_memory result) (CrossedAs preset.entry.kind preset.entry.header preset.entry.letters.now preset.entry.entries.now) }
 {

@@ -6,7 +6,7 @@ use charge::ChargeKind;
 use console::EntryWord;
 use preset::Entry;
 
-// A text, and whether it tells that what was asked is so.
+// A text, and whether it tells that what was asked is so. There is a text in either case, so the two are no `Option`.
 #[derive(Drop)]
 pub struct Line {
     pub text: String,
@@ -52,13 +52,4 @@ impl Shape {
             entry,
         }
     }
-}
-
-// A word that fails, by its code, the length of the ring that shows it, and two totals of that ring.
-#[derive(Clone, Copy)]
-pub(crate) struct Finding {
-    pub word: usize,
-    pub len: usize,
-    pub first: Entry,
-    pub second: Entry,
 }

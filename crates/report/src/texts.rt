@@ -4,9 +4,11 @@ ghost use Rattle.fault.specs.Refusals.{refusal};
 ghost use Rattle.report.specs.Texts.{kinds_text, good_word, bad_word, refused_text, kept_text, finding_text, shape_of, verdict_text, verdict_good, ring_fits};
 ghost use Rattle.report.specs.Lines.{LineIs};
 
-use crate::line::{Finding, Line, Question, Shape};
+use crate::line::{Line, Question, Shape};
 use automaton::ShownLetters;
+use bench::Break;
 use fault::Fault;
+use preset::Entry;
 use std::alloc::{AllocError, Global};
 
 impl Question {
@@ -51,7 +53,12 @@ impl Asked<'_> {
     }
 
     // The line of a failing word and the ring that shows it.
-    fn finding_line(self, alloc: Global, ring: &[u8], finding: Finding) -> Result<Line, AllocError>
+    fn finding_line(
+        self,
+        alloc: Global,
+        ring: &[u8],
+        finding: Break<Entry>,
+    ) -> Result<Line, AllocError>
         ensures { IfOk result (LineIs (finding_text self.entry.question self.entry.subject.now (shape_of self.entry.shape) ring.now finding) false) }
     {
         let subject = self.subject;
@@ -69,7 +76,7 @@ impl Asked<'_> {
         self,
         alloc: Global,
         strip: &[u8],
-        found: Result<Option<Finding>, Fault>,
+        found: Result<Option<Break<Entry>>, Fault>,
     ) -> Result<Line, AllocError>
         requires { ring_fits found strip.now }
         ensures { IfOk result (LineIs (verdict_text self.entry.question self.entry.subject.now (shape_of self.entry.shape) strip.now found) (verdict_good found)) }

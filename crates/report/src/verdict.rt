@@ -6,23 +6,23 @@ ghost use Rattle.report.specs.Reports.{JudgeLine, JudgedAs, judge_shape};
 
 use crate::charges::charges_of;
 use crate::judge::judge_tables;
-use crate::line::{Finding, Line, Question, Shape};
+use crate::line::{Line, Question, Shape};
 use crate::texts::Asked;
 use bench::Break;
 use charge::{Both, Channels, ChargeKind, Pitch, Voices};
 use criterion::MOST_SHOWN;
 use fault::Fault;
-use preset::{Loaded, Sent};
+use preset::{Entry, Loaded, Sent};
 use std::alloc::{AllocError, Global};
 
 // How many crossings a strip has room for: enough for every preset.
 pub(crate) const CROSSING_ROOM: usize = 4096;
 
 // A break with its totals as entries.
-fn sent_break<C: Sent>(found: Break<C>) -> Finding
+fn sent_break<C: Sent>(found: Break<C>) -> Break<Entry>
     ensures { result ≡ sent_break C.sending found }
 {
-    Finding {
+    Break {
         word: found.word,
         len: found.len,
         first: found.first.to_entry(),
@@ -33,7 +33,7 @@ fn sent_break<C: Sent>(found: Break<C>) -> Finding
 // What was found, with its totals as entries.
 pub(crate) fn sent_found<C: Sent>(
     found: Result<Option<Break<C>>, Fault>,
-) -> Result<Option<Finding>, Fault>
+) -> Result<Option<Break<Entry>>, Fault>
     ensures { result ≡ sent_found C.sending found }
 {
     found.map(|found| found.map(sent_break))
@@ -68,7 +68,8 @@ fn judge_charges<C: Sent>(alloc: Global, name: &str, preset: Loaded<'_>) -> Resu
     asked.line(alloc, &ring, sent_found(found))
 }
 
-// The line of a preset of any kind.
+// The line of a preset of any kind. What is done for each kind is a generic function, which no closure or `dyn` can
+// stand for.
 pub(crate) fn judge_kind(alloc: Global, name: &str, preset: Loaded<'_>) -> Result<Line, AllocError>
     ensures { IfOk result (JudgedAs preset.entry.kind name.now preset.entry.header preset.entry.letters.now preset.entry.entries.now) }
 {

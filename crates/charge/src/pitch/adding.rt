@@ -20,6 +20,7 @@ fn class_opposite(a: u8) -> u8
     (PITCH_CLASSES - a) % PITCH_CLASSES
 }
 
+// Stands by itself so that the check proves it with no answer, and refuses an edit of it here.
 fn equal_classes(a: u8, b: u8) -> bool
     ensures { Decides result (a ≡ b) }
 {
