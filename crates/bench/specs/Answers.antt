@@ -27,6 +27,11 @@ abbrev pub likeness_means : {C : Type 0} → (K : Kind C) → Option (Break C) �
 likeness_means K None = agree
 likeness_means K (Some b) = differ (break_means K b)
 
+-- the break that a verdict tells of, if it tells of one
+abbrev pub break_of : {C R D : Type 0} → Verdict C R D → Option (Break C)
+break_of (Holds h) = None
+break_of (Breaks h b) = Some b
+
 -- the answers of the calls, likewise
 abbrev pub judge_said : {C R D S : Type 0} → (K : Kind C) → Result (Verdict C R D) (Refused S) → Result (Judgement K.group.Carrier) Refusal
 judge_said K (Ok v) = Ok (verdict_means K v)

@@ -35,7 +35,7 @@ fn compare_words<C: Charge, D: Density<C>, E: Density<C>>(
     examine(&label, crossings, ring)
 }
 
-// Compares two densities on lent strips.
+// Compares two densities on lent strips. Apart from `compare`, whose theorems need answers of their own.
 fn compare_on<C: Charge, D: Density<C>, E: Density<C>>(
     first: &D,
     second: &E,

@@ -53,6 +53,20 @@ pub enum Verdict<C, R, D> {
     Breaks(Breaking<R, D>, Break<C>),
 }
 
+impl<C: Drop, R: Drop, D: Drop> Verdict<C, R, D> {
+    ghost use Rattle.bench.specs.Answers.{break_of};
+
+    // The break, if there is one, without the bench.
+    pub fn found(self) -> Option<Break<C>>
+        ensures { result ≡ break_of self }
+    {
+        match self {
+            Verdict::Holds(_) => None,
+            Verdict::Breaks(_, found) => Some(found),
+        }
+    }
+}
+
 // A refusal, with what was handed over as it stood.
 #[derive(Drop)]
 pub struct Refused<S> {

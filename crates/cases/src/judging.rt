@@ -1,6 +1,7 @@
 // Benches judged and densities compared.
+use crate::numbers;
 use automaton::{Density, PatternDensity, Rule, SumRule, TableDensity, TableRule};
-use bench::{Break, Draft, Verdict, compare};
+use bench::{Break, Draft, compare};
 use charge::{Channels, Charge, Pitch, Voices};
 use fault::Fault;
 
@@ -11,10 +12,7 @@ fn judged<C: Charge, R: Rule + Drop, D: Density<C> + Drop>(
     crossings: &mut [C],
     ring: &mut [u8],
 ) -> Result<Option<Break<C>>, Fault> {
-    match Draft::new(rule, density)?.judge(crossings, ring)? {
-        Verdict::Holds(_bench) => Ok(None),
-        Verdict::Breaks(_bench, found) => Ok(Some(found)),
-    }
+    Ok(Draft::new(rule, density)?.judge(crossings, ring)?.found())
 }
 
 // The sizes of a rule and of a density over one alphabet.
@@ -47,11 +45,6 @@ fn judged_tables<C: Charge>(
     let mut density = TableDensity::zero();
     density.fill(sizes.q, sizes.k, entries)?;
     judged(rule, density, crossings, ring)
-}
-
-// A refusal by its code and its place.
-fn numbers(fault: Fault) -> (u8, usize) {
-    (fault.stop.code(), fault.place)
 }
 
 fn voices(count: i64) -> Voices {

@@ -11,3 +11,12 @@ mod number;
 mod reading;
 #[cfg(test)]
 mod writing;
+
+#[cfg(test)]
+use fault::Fault;
+
+// A refusal by its code and its place.
+#[cfg(test)]
+fn numbers(fault: Fault) -> (u8, usize) {
+    (fault.stop.code(), fault.place)
+}

@@ -1,4 +1,5 @@
 // Presets read.
+use crate::numbers;
 use fault::Stop;
 use preset::{Entry, Header, STRIP, read_preset, read_whole};
 use std::test::Fail;
@@ -12,8 +13,9 @@ const NONE: Entry = Entry {
 fn refused(input: &[u8]) -> Option<(u8, usize)> {
     let mut letters = [0u8; STRIP];
     let mut entries = [NONE; STRIP];
-    let fault = read_whole(input, &mut letters, &mut entries).err()?;
-    Some((fault.stop.code(), fault.place))
+    read_whole(input, &mut letters, &mut entries)
+        .err()
+        .map(numbers)
 }
 
 #[test]

@@ -1,4 +1,5 @@
 // Presets written.
+use crate::numbers;
 use preset::{Entry, Header, write_preset};
 
 const RULE_184: [u8; 8] = [0, 0, 0, 1, 1, 1, 0, 1];
@@ -29,7 +30,7 @@ fn written(
     entries: &[Entry],
     out: &mut [u8],
 ) -> Result<usize, (u8, usize)> {
-    write_preset(header, letters, entries, out).map_err(|fault| (fault.stop.code(), fault.place))
+    write_preset(header, letters, entries, out).map_err(numbers)
 }
 
 #[test]

@@ -33,8 +33,7 @@ impl Item for u8 {
     ghost form = { letter_form };
 
     fn from_word(_kind: ChargeKind, word: &[u8]) -> Option<u8> {
-        let value = read_number(word)?;
-        if value < 256 { Some(value as u8) } else { None }
+        u8::try_from(read_number(word)?).ok()
     }
 
     fn expected() -> Expected {

@@ -12,7 +12,7 @@ use crate::item::Item;
 use crate::lines::Lines;
 use crate::part::Part;
 use crate::place::Place;
-use crate::row::{read_end, read_kind_row, read_number_row, read_row};
+use crate::row::{Row, read_end, read_kind_row, read_number_row, read_row};
 use crate::words::Words;
 use charge::ChargeKind;
 use preset::{Entry, Header};
@@ -35,14 +35,13 @@ fn read_item<T: Item>(kind: ChargeKind, line: usize, word: &[u8]) -> Result<T, T
 fn read_items<T: Item>(
     alloc: Global,
     kind: ChargeKind,
-    line: usize,
-    words: Words<'_>,
+    row: Row<'_, Words<'_>>,
 ) -> Result<Vec<T>, TextError>
-    ensures { Told (read vec_items result) (each (T.form.reads kind) T.form.expected line (words_left words.entry)) }
+    ensures { Told (read vec_items result) (each (T.form.reads kind) T.form.expected row.entry.line (words_left row.entry.value)) }
 {
     let mut items = Vec::new(alloc);
-    for word in words {
-        items.push(read_item::<T>(kind, line, word)?)?;
+    for word in row.value {
+        items.push(read_item::<T>(kind, row.line, word)?)?;
     }
     Ok(items)
 }
@@ -57,9 +56,9 @@ pub fn parse(alloc: Global, text: &[u8]) -> Result<Draft, TextError>
     let l = read_number_row(Part::Reach, n.after)?;
     let k = read_number_row(Part::Width, l.after)?;
     let rule = read_row(Part::Rule, k.after)?;
-    let letters = read_items::<u8>(alloc, kind.value, rule.line, rule.value)?;
+    let letters = read_items::<u8>(alloc, kind.value, rule)?;
     let density = read_row(Part::Density, rule.after)?;
-    let entries = read_items::<Entry>(alloc, kind.value, density.line, density.value)?;
+    let entries = read_items::<Entry>(alloc, kind.value, density)?;
     read_end(density.after)?;
     Ok(Draft {
         kind: kind.value,

@@ -73,13 +73,11 @@ pub(crate) fn read_row<'a>(part: Part, place: Place<'a>) -> Result<Row<'a, Words
 }
 
 // The only word of a line.
-fn only_word<'a>(
-    expected: Expected,
-    line: usize,
-    mut words: Words<'a>,
-) -> Result<&'a [u8], TextError>
-    ensures { read (λ s. s.now) result ≡ only expected line (words_left words.entry) }
+fn only_word<'a>(expected: Expected, row: Row<'a, Words<'a>>) -> Result<&'a [u8], TextError>
+    ensures { read (λ s. s.now) result ≡ only expected row.entry.line (words_left row.entry.value) }
 {
+    let line = row.line;
+    let mut words = row.value;
     let Some(word) = words.next() else {
         return Err(TextError::Wrong { line, expected });
     };
@@ -101,7 +99,7 @@ fn read_word<'a>(
     ensures { read (row_of (λ s. s.now)) result ≡ word_row part expected (at place.entry) }
 {
     let row = read_row(part, place)?;
-    let word = only_word(expected, row.line, row.value)?;
+    let word = only_word(expected, row)?;
     row.with(Some(word), expected)
 }
 

@@ -7,7 +7,7 @@ use crate::rule::RuleLine;
 use crate::show::{MARK, write_end, write_fault};
 use crate::strips::{Rooms, Strips};
 use automaton::{Density, Rule, ShownLetters, next_ring, total};
-use bench::{Break, Draft, Verdict, compare};
+use bench::{Draft, compare};
 use charge::{Both, Channels, ChargeKind, Pitch, Voices};
 use std::alloc::Global;
 use std::io;
@@ -33,15 +33,7 @@ impl From<usize> for Call {
     }
 }
 
-// The break that a verdict tells of, if it tells of one.
-fn break_of<C: Tried, R: Drop, D: Drop>(verdict: Verdict<C, R, D>) -> Option<Break<C>> {
-    match verdict {
-        Verdict::Holds(_bench) => None,
-        Verdict::Breaks(_bench, found) => Some(found),
-    }
-}
-
-// A rule judged under a density.
+// A rule judged under a density. The four things that each call takes make no struct, since they are lent one by one.
 fn judge_parts<C: Tried, R: Rule + Drop, D: Density<C> + Drop, W: Write>(
     alloc: Global,
     out: &mut W,
@@ -53,7 +45,7 @@ fn judge_parts<C: Tried, R: Rule + Drop, D: Density<C> + Drop, W: Write>(
     let mut strips = Strips::<C>::new(alloc, rooms, rule.q(), m)?;
     let draft = Draft::new(rule, density)?;
     let verdict = draft.judge(&mut strips.crossings, &mut strips.ring)?;
-    strips.write_found(out, "holds", "breaks", break_of(verdict))?;
+    strips.write_found(out, "holds", "breaks", verdict.found())?;
     Ok(())
 }
 

@@ -8,7 +8,7 @@ use charge::Charge;
 use fault::Fault;
 use std::alloc::{AllocError, Global};
 
-// A density by a table of entries, or by a pattern.
+// A density by a table of entries, or by a pattern, as an enum for the same reason as a rule.
 #[derive(Drop)]
 pub enum AnyDensity<'a, C> {
     Table(TableDensity<'a, C>),

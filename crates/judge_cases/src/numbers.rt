@@ -1,25 +1,25 @@
 // A line of numbers, taken one after another; past the last one each number is 0.
 use std::alloc::{AllocError, Global};
+use std::vec::IntoIter;
 
 #[derive(Drop)]
 pub struct Numbers {
-    numbers: Vec<i64>,
-    next: usize,
+    numbers: IntoIter<i64>,
 }
 
 impl Numbers {
     pub(crate) fn parse(alloc: Global, line: &str) -> Result<Numbers, AllocError> {
-        let numbers = line
+        let numbers: Vec<i64> = line
             .split(' ')
             .map(|word| word.parse::<i64>().unwrap_or(0))
             .collect(alloc)?;
-        Ok(Numbers { numbers, next: 0 })
+        Ok(Numbers {
+            numbers: numbers.into_iter(),
+        })
     }
 
     pub(crate) fn signed(&mut self) -> i64 {
-        let number = self.numbers.get(self.next).copied().unwrap_or(0);
-        self.next = self.next.saturating_add(1);
-        number
+        self.numbers.next().unwrap_or(0)
     }
 
     pub(crate) fn plain(&mut self) -> u64 {

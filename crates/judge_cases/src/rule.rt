@@ -6,7 +6,7 @@ use automaton::{Rule, SumRule, TableRule};
 use fault::Fault;
 use std::alloc::{AllocError, Global};
 
-// A rule by a table, or by a table of sums.
+// A rule by a table, or by a table of sums. An enum and no `dyn Rule`, since a bench takes its rule by value.
 #[derive(Clone, Copy)]
 pub enum AnyRule<'a> {
     Table(TableRule<'a>),

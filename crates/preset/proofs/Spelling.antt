@@ -17,14 +17,6 @@ length_high_step n h = ap length (high_step n h) ∙ length_push (high_bytes (n 
 pub length-spell : (v : ℕ) → length (spell v) ≡ length (high_bytes (v / 128)) + 1
 length-spell v = length_push (high_bytes (v / 128)) (v % 128)
 
--- a number of 64 bits takes at most ten bytes
-pub length-spell_le : (v : ℕ) → v < 2 ^ 64 → length (spell v) ≤ 10
-length-spell_le v h =
-    let a = length-map (digits_of 128 (v / 128)) (λ d. 128 + d) in
-    let b : v / 128 < 128 ^ 9 = omega arith in
-    let c = length-digits_of-le 128 9 (v / 128) (omega arith) b in
-    omega (arith, length-spell v)
-
 -- powers of 128 are powers of 2
 seven : (k : ℕ) → 128 ^ k ≡ 2 ^ (7 * k)
 seven zero = refl

@@ -94,20 +94,6 @@ impl Encode for u64 {
     }
 }
 
-// Writes a number from `at` on, or refuses it and writes nothing.
-fn write_at(value: u64, out: &mut [u8], at: usize) -> Result<usize, Fault>
-    ensures answer { plainly result ≡ number_end out.old at value }
-    ensures strip { out.new ≡ spelt_over out.old at (spelling out.old at value) }
-{
-    if value > MOST_NUMBER {
-        return Err(Stop::Misspelt.at(0));
-    }
-    if at > out.len() || out.len() - at < spelt_len(value) {
-        return Err(Stop::ShortStrip.at(0));
-    }
-    Ok(at + put_number(value, &mut out[at..]))
-}
-
 // Writes a number from `at` on and answers the index after it. A value over the limit has no spelling.
 #[tactic(auto, using(crate::proofs::NumberLaws::number_reads_back, crate::proofs::NumberLaws::number_spells_back))]
 pub fn write_number(value: u64, out: &mut [u8], at: usize) -> Result<usize, Fault>
@@ -116,5 +102,7 @@ pub fn write_number(value: u64, out: &mut [u8], at: usize) -> Result<usize, Faul
     ensures reads_back { NumberReadsBack }
     ensures spells_back { NumberSpellsBack }
 {
-    write_at(value, out, at)
+    Stop::Misspelt.unless(value <= MOST_NUMBER)?;
+    Stop::ShortStrip.unless(at <= out.len() && spelt_len(value) <= out.len() - at)?;
+    Ok(at + put_number(value, &mut out[at..]))
 }

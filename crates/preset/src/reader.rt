@@ -52,9 +52,7 @@ fn find_parts(input: &[u8]) -> Result<Scan<'_>, Fault>
 fn find_parts_for(input: &[u8], letters: usize, entries: usize) -> Result<Scan<'_>, Fault>
     ensures { MatchResult result (λ s. Scanned input.now s × (most_words ≤ letters) × (most_words ≤ entries)) (λ f. with_room letters entries (preset-at input.now) ≡ Err (refusal f)) }
 {
-    if letters < STRIP || entries < STRIP {
-        return Err(Stop::ShortStrip.at(0));
-    }
+    Stop::ShortStrip.unless(STRIP <= letters && STRIP <= entries)?;
     find_parts(input)
 }
 

@@ -6,7 +6,7 @@ ghost use Rattle.preset.specs.Entries.{fits};
 ghost use Rattle.preset.specs.Sending.{Sending, voices_sending, pitch_sending, channels_sending, both_sending};
 
 use crate::entry::{Entry, allowed};
-use charge::{Both, Channels, Charge, ChargeKind, PITCH_CLASSES, Pitch, Voices};
+use charge::{Both, Channels, Charge, ChargeKind, Pitch, Voices};
 
 // A kind of charge that presets have. The member `sending` says which kind it is, and which entry a charge is
 // sent as.
@@ -29,10 +29,7 @@ pub trait Sent: Charge {
 fn pitch_of(plain: u64) -> Option<Pitch>
     ensures { option_map (λ p. p.class) result ≡ (if nat_lt plain pitch_end then Some plain else None) }
 {
-    if plain >= PITCH_CLASSES as u64 {
-        return None;
-    }
-    Pitch::new(plain as u8)
+    Pitch::new(u8::try_from(plain).ok()?)
 }
 
 // The set of channels of a number, if it is one.

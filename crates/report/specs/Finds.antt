@@ -14,17 +14,10 @@ use Rattle.preset.specs.declared.entry.Entry.{Entry}
 use Rattle.preset.specs.declared.header.Header.{Header}
 use Rattle.preset.specs.Sending.{Sending}
 use Rattle.bench.specs.declared.state.Break.{Break}
-use Rattle.bench.specs.declared.state.Verdict.{Verdict}
-use Rattle.bench.specs.declared.state.Verdict.TheVariants.{Holds, Breaks}
 use Rattle.bench.specs.Answers.{found_said}
 use Rattle.bench.specs.Labels.{rule_label_list, two_label_list}
 use Rattle.bench.specs.Laws.{VerdictRight, ComparisonRight}
 use Rattle.bench.specs.Verdicts.{broken, judge_found, compare_found}
-
--- the break that a verdict tells of, if it tells of one
-abbrev pub break_of : {C R D : Type 0} → Verdict C R D → Option (Break C)
-break_of (Holds h) = None
-break_of (Breaks h b) = Some b
 
 -- What was found for a label on two strips: an answer with the two totals of the ring shown, the crossings, the ring,
 -- and what is right of all rings.

@@ -12,7 +12,7 @@ fn charge_of<C: Sent>(entry: Entry) -> C
     ensures { C.sending.entry result ≡ entry }
 {
     let Some(charge) = C::from_entry(entry) else {
-        unreachable()
+        unreachable!()
     };
     charge
 }

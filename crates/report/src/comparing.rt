@@ -26,7 +26,7 @@ fn compare_shape(first: Loaded<'_>, second: Loaded<'_>) -> Shape
     }
 }
 
-// The line of two presets of one kind.
+// The line of two presets of one kind. They make no struct, since the second may be refused when there is a first.
 fn compare_charges<C: Sent>(
     alloc: Global,
     subject: &str,

@@ -11,7 +11,7 @@ use crate::charges::charges_of;
 use crate::judge::judge_tables;
 use crate::line::{Line, Shape};
 use crate::rows::rows_text;
-use crate::verdict::CROSSING_ROOM;
+use crate::verdict::{CROSSING_ROOM, judge_shape};
 use bench::Break;
 use charge::{Both, Channels, ChargeKind, Pitch, Voices};
 use console::ShowError;
@@ -23,12 +23,8 @@ use std::alloc::{AllocError, Global};
 fn crossing_shape(preset: Loaded<'_>) -> Shape
     ensures { shape_of result ≡ crossing_shape preset.entry.kind preset.entry.header }
 {
-    let header = preset.header;
-    Shape {
-        kind: preset.kind,
-        q: header.q as usize,
-        m: (header.n + header.k - 1 - 1) as usize,
-    }
+    let Shape { kind, q, m } = judge_shape(preset);
+    Shape { kind, q, m: m - 1 }
 }
 
 // The page of crossings at the front of a strip, one for each word.

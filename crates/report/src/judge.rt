@@ -1,23 +1,13 @@
 // A preset that was read, judged.
 ghost use Rattle.std.specs.Prelude.{◌≡◌, length};
 ghost use Rattle.bench.specs.Verdicts.{judge_found};
-ghost use Rattle.report.specs.Finds.{break_of, JudgeFinds, preset_rule, preset_density, preset_found};
+ghost use Rattle.report.specs.Finds.{JudgeFinds, preset_rule, preset_density, preset_found};
 
 use automaton::{Density, Rule, TableDensity, TableRule};
-use bench::{Break, Draft, Verdict};
+use bench::{Break, Draft};
 use charge::Charge;
 use fault::Fault;
 use preset::Loaded;
-
-// The break that a verdict tells of, if it tells of one.
-fn break_of<C: Charge, R: Drop, D: Drop>(verdict: Verdict<C, R, D>) -> Option<Break<C>>
-    ensures { result ≡ break_of verdict }
-{
-    match verdict {
-        Verdict::Holds(holding) => None,
-        Verdict::Breaks(breaking, found) => Some(found),
-    }
-}
 
 // Judges a rule under a density.
 fn judge_parts<C: Charge, R: Rule + Drop, D: Density<C> + Drop>(
@@ -28,8 +18,7 @@ fn judge_parts<C: Charge, R: Rule + Drop, D: Density<C> + Drop>(
 ) -> Result<Option<Break<C>>, Fault>
     ensures { JudgeFinds C.kind (R.meaning rule) (D.weights C.kind density) (judge_found C.kind C.equality (length crossings.old) (length ring.old) (R.meaning rule) (D.weights C.kind density)) crossings.old crossings.new ring.old ring.new result }
 {
-    let verdict = Draft::new(rule, density)?.judge(crossings, ring)?;
-    Ok(break_of(verdict))
+    Ok(Draft::new(rule, density)?.judge(crossings, ring)?.found())
 }
 
 // Judges the rule of a preset under its density.

@@ -12,11 +12,12 @@ use bench::Break;
 use charge::{Both, Channels, ChargeKind, Pitch, Voices};
 use criterion::MOST_SHOWN;
 use fault::Fault;
+use fault::limits::MOST_WORDS;
 use preset::{Entry, Loaded, Sent};
 use std::alloc::{AllocError, Global};
 
-// How many crossings a strip has room for: enough for every preset.
-pub(crate) const CROSSING_ROOM: usize = 4096;
+// How many crossings a strip has room for: no label has more words.
+pub(crate) const CROSSING_ROOM: usize = MOST_WORDS as usize;
 
 // A break with its totals as entries.
 fn sent_break<C: Sent>(found: Break<C>) -> Break<Entry>
@@ -40,7 +41,7 @@ pub(crate) fn sent_found<C: Sent>(
 }
 
 // The kind and the alphabet of a preset, and the words that its label is on.
-fn judge_shape(preset: Loaded<'_>) -> Shape
+pub(crate) fn judge_shape(preset: Loaded<'_>) -> Shape
     ensures { shape_of result ≡ judge_shape preset.entry.kind preset.entry.header }
 {
     let header = preset.header;

@@ -7,4 +7,4 @@ use Rattle.console.proofs.reader.read_items.Given as goal
 abbrev pub invariant-loop-word : goal.invariant-loop-word
 invariant-loop-word g l =
     let F = g.T.Item.form in
-    each (F.reads l.kind) F.expected l.line (words_left l.words) ≡ ahead (vec_items l.items) (each (F.reads l.kind) F.expected l.line (words_left l.word-iterator))
+    each (F.reads l.kind) F.expected l.row.line (words_left l.row.value) ≡ ahead (vec_items l.items) (each (F.reads l.kind) F.expected l.row.line (words_left l.word-iterator))
