@@ -22,13 +22,10 @@ use std::alloc::Global;
 fn read_item<T: Item>(kind: ChargeKind, line: usize, word: &[u8]) -> Result<T, TextError>
     ensures { result ≡ ok_or (T.form.reads kind word.now) (Wrong line T.form.expected) }
 {
-    match T::from_word(kind, word) {
-        Some(item) => Ok(item),
-        None => Err(TextError::Wrong {
-            line,
-            expected: T::expected(),
-        }),
-    }
+    T::from_word(kind, word).ok_or(TextError::Wrong {
+        line,
+        expected: T::expected(),
+    })
 }
 
 // The items that the words of a line write.

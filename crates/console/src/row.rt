@@ -27,17 +27,15 @@ impl<'a, T: Copy> Row<'a, T> {
     fn with<U>(self, value: Option<U>, expected: Expected) -> Result<Row<'a, U>, TextError>
         ensures { result ≡ ok_or (option_map (λ v. record { value = v; line = self.entry.line; after = self.entry.after }) value) (Wrong self.entry.line expected) }
     {
-        match value {
-            Some(value) => Ok(Row {
-                value,
-                line: self.line,
-                after: self.after,
-            }),
-            None => Err(TextError::Wrong {
-                line: self.line,
-                expected,
-            }),
-        }
+        let value = value.ok_or(TextError::Wrong {
+            line: self.line,
+            expected,
+        })?;
+        Ok(Row {
+            value,
+            line: self.line,
+            after: self.after,
+        })
     }
 }
 

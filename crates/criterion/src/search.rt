@@ -22,7 +22,8 @@ pub struct Failure {
     pub len: usize,
 }
 
-// The code of the word with the first letters of code `head` and the letter `last`.
+// The code of the word with the first letters of code `head` and the letter `last`. The bounds stand here, since a label's
+// methods answer plain numbers.
 fn code_of(q: usize, heads: usize, head: usize, last: usize) -> usize
     requires small { (q ≤ 8) × (heads ≤ 4096) }
     requires within { (head < heads) × (last < q) }
@@ -51,7 +52,8 @@ fn fails<C: Charge, L: Label<C>>(label: &L, crossings: &[C], head: usize, code: 
     !labelled(label, code, crosses)
 }
 
-// The smallest code of a word that fails, by the crossings.
+// The smallest code of a word that fails, by the crossings. Two loops that are left at once: a chain over both ranges
+// would ask the label inside closures.
 fn first_failing<C: Charge, L: Label<C>>(label: &L, crossings: &[C]) -> Option<usize>
     requires { map C.kind.means crossings.now ≡ crossings_of C.kind padding (L.labels C.kind label.now) }
     ensures { result ≡ failing C.kind C.equality padding (L.labels C.kind label.now) }

@@ -31,7 +31,7 @@ pub enum Stop {
 }
 
 impl Stop {
-    // The number of the stop code.
+    // The number of the stop code. A method, since a number alone would not say what it numbers.
     pub fn code(self) -> u8
         ensures { result ≡ code_of self }
     {

@@ -60,10 +60,7 @@ impl<'a> Unread<'a> {
     {
         let place = self.place();
         let number = self.number()?;
-        let Ok(kind) = ChargeKind::try_from(number) else {
-            return Err(Stop::UnknownKind.at(place));
-        };
-        Ok(kind)
+        ChargeKind::try_from(number).map_err(|_| Stop::UnknownKind.at(place))
     }
 
     // Reads a number that lies from `low` to `end` - 1.

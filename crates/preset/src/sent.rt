@@ -16,7 +16,7 @@ pub trait Sent: Charge {
     fn kind() -> ChargeKind
         ensures { result ≡ sending.named };
 
-    // The entry that the charge is sent as.
+    // The entry that the charge is sent as. No `From`, since clauses go by the member `sending`.
     fn to_entry(self) -> Entry
         ensures { result ≡ sending.entry self };
 

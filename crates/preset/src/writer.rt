@@ -41,9 +41,7 @@ fn check_sizes(header: Header) -> Result<(), Fault>
 fn check_head(header: Header) -> Result<Head, Fault>
     ensures { plainly (heads result) ≡ head_checked header }
 {
-    let Ok(kind) = ChargeKind::try_from(header.kind) else {
-        return Err(Stop::UnknownKind.at(0));
-    };
+    let kind = ChargeKind::try_from(header.kind).map_err(|_| Stop::UnknownKind.at(0))?;
     check_sizes(header)?;
     Ok(Head { kind, header })
 }
