@@ -9,7 +9,7 @@ ghost use Rattle.automaton.specs.Meanings.{total as total_of};
 ghost use Rattle.automaton.specs.Making.{ring_checked, done, charged};
 
 use crate::density::Density;
-use crate::making::check_letters;
+use crate::making::{Alphabet, check_each};
 use crate::rule::Rule;
 use charge::Charge;
 use fault::limits::MOST_CELLS;
@@ -34,7 +34,7 @@ impl<'a> Ring<'a> {
     {
         Stop::BadLength.unless(1 <= cells.len() && cells.len() <= MOST_CELLS)?;
         Stop::ShortStrip.unless(cells.len() <= room)?;
-        check_letters(q, cells)?;
+        check_each(&Alphabet { q }, cells)?;
         Ok(Ring { q, cells })
     }
 
