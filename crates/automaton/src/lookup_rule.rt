@@ -11,7 +11,8 @@ use crate::words::Words;
 use fault::Fault;
 use std::marker::PhantomData;
 
-// Where the answer for a word stands in a table of letters, and how many places the table has.
+// Where the answer for a word stands in a table of letters, and how many places the table has. It is not exported, so
+// the two lookups of this crate are all there are.
 pub trait Lookup: Copy {
     ghost place: { ℕ → ℕ → ℕ → ℕ };
 
