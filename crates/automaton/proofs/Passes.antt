@@ -1,5 +1,5 @@
 -- What a rule or a density has passed once it is made. Assumes nothing.
-use Rattle.std.proofs.Common.{◌≡◌, ℕ, zero, suc, ◌+◌, ◌<◌, ◌≤◌, Bool, true, false, cond, ltb, leb, List, [], ◌∷◌, length, get_or, take, not, Some, Ok, Err, sym, refl, ap, ◌∙◌, subst, arith, length-take-le}
+use Rattle.std.proofs.Common.{◌≡◌, ℕ, zero, suc, ◌+◌, ◌<◌, ◌≤◌, Bool, true, false, cond, ltb, List, [], ◌∷◌, length, get_or, take, not, Some, Ok, Err, sym, refl, ap, ◌∙◌, subst, arith, length-take-le}
 use Rattle.std.specs.List.{position, position_from}
 use Rattle.std.specs.Option.{option_map_or}
 use Rattle.std.proofs.lemmas.Iterator.Adapters.{position_from-zero}
@@ -21,26 +21,18 @@ each_passes allows stop none i [] e j h = absurd (omega arith)
 each_passes allows stop none i (x ∷ xs) e zero h = grind (arith, nat_tests)
 each_passes allows stop none i (x ∷ xs) e (suc j) h = each_passes allows stop none (i + 1) xs (grind (arith, nat_tests)) j (omega arith)
 
-pub ltb-leb : (a q : ℕ) → ltb a q ≡ not (leb q a)
-ltb-leb a q = grind (arith, nat_tests)
-
-pub not-not : (b : Bool) → b ≡ not (not b)
-not-not true = refl
-not-not false = refl
-
 -- the first item that does not pass, by its index
-module _ {X : Type 0} (fits unfit : X → Bool) (same : (x : X) → fits x ≡ not (unfit x)) (stop : Stop) where
-  fits-from : (xs : List X) (i : ℕ) → each_fits fits stop i xs ≡ option_map_or (λ j. Err (refused_at stop j)) (position_from unfit i xs) (Ok tt)
+module _ {X : Type 0} (fits : X → Bool) (stop : Stop) where
+  fits-from : (xs : List X) (i : ℕ) → each_fits fits stop i xs ≡ option_map_or (λ j. Err (refused_at stop j)) (position_from (λ x. not (fits x)) i xs) (Ok tt)
   fits-from [] i = refl
   fits-from (x ∷ xs) i =
-      ap (λ b. cond b (each_fits fits stop (i + 1) xs) (Err (refused_at stop i))) (same x)
-      ∙ elim (unfit x) as (λ b. cond (not b) (each_fits fits stop (i + 1) xs) (Err (refused_at stop i)) ≡ option_map_or (λ j. Err (refused_at stop j)) (cond b (Some i) (position_from unfit (i + 1) xs)) (Ok tt)) [
-        | true ↦ refl
-        | false ↦ fits-from xs (i + 1)
+      elim (fits x) as (λ b. cond b (each_fits fits stop (i + 1) xs) (Err (refused_at stop i)) ≡ option_map_or (λ j. Err (refused_at stop j)) (cond (not b) (Some i) (position_from (λ x. not (fits x)) (i + 1) xs)) (Ok tt)) [
+        | true ↦ fits-from xs (i + 1)
+        | false ↦ refl
       ]
 
-  pub fits-position : (xs : List X) → option_map_or (λ j. Err (refused_at stop j)) (position unfit xs) (Ok tt) ≡ each_fits fits stop 0 xs
-  fits-position xs = ap (λ r. option_map_or (λ j. Err (refused_at stop j)) r (Ok tt)) (position_from-zero unfit xs) ∙ sym (fits-from xs 0)
+  pub fits-position : (xs : List X) → option_map_or (λ j. Err (refused_at stop j)) (position (λ x. not (fits x)) xs) (Ok tt) ≡ each_fits fits stop 0 xs
+  fits-position xs = ap (λ r. option_map_or (λ j. Err (refused_at stop j)) r (Ok tt)) (position_from-zero (λ x. not (fits x)) xs) ∙ sym (fits-from xs 0)
 
 pub taken-front : {X : Type 0} (allows : X → Bool) (stop : Stop) (need : ℕ) (xs ys : List X) → taken allows stop need xs ≡ Ok ys →
     (need ≤ length xs) × (ys ≡ take need xs) × (each_fits allows stop 0 (take need xs) ≡ Ok tt)

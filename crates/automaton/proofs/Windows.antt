@@ -1,9 +1,10 @@
 -- Codes of windows, and the cell some cells before another. Assumes nothing.
-use Rattle.std.proofs.Common.{◌≡◌, ℕ, zero, suc, ◌+◌, ◌-◌, ◌*◌, ◌/◌, ◌%◌, ◌^◌, ◌<◌, ◌≤◌, List, [], ◌∷◌, ◌++◌, length, get_or, take, drop, set, sym, ap, ◌∙◌, ap₂, append_assoc, append-nil, mod-lt, suc-mul, mul_comm, mul-le-mul_left, zero-add, arith}
+use Rattle.std.proofs.Common.{◌≡◌, ℕ, zero, suc, ◌+◌, ◌-◌, ◌*◌, ◌/◌, ◌%◌, ◌^◌, ◌<◌, ◌≤◌, List, [], ◌∷◌, ◌++◌, length, get_or, take, drop, set, sym, ap, ◌∙◌, ap₂, append_assoc, mod-lt, suc-mul, mul_comm, mul-le-mul_left, zero-add, arith}
 use native.Mathlib.Nat.{div-add-mod}
-use Rattle.std.proofs.lemmas.List.{take_more, drop_more, set_at, take_all, drop_all, ext_get_or, length-take-le}
+use Rattle.std.proofs.lemmas.List.{take_more, drop_more, set_at, take_all, ext_get_or, length-take-le}
 use Rattle.std.proofs.lemmas.Int.Digits.{number_push}
 use Rattle.fault.proofs.Powers.{power_bound}
+use Rattle.fault.specs.Answers.{front}
 use Rattle.automaton.specs.Words.{Letters, code, window, cell, before}
 use Rattle.automaton.specs.Meanings.{Local, answer, next}
 use Rattle.automaton.proofs.Codes.{code_lt}
@@ -71,5 +72,5 @@ module _ {X : Type 0} (xs old strip : List X) (i : ℕ) where
       ∙ sym (append_assoc (take i xs) (get_or xs i none ∷ []) (drop (i + 1) old))
       ∙ ap (λ t. t ++ drop (i + 1) old) (sym (take_more xs i none h))
 
-  pub slots-done : length xs ≤ i → length old ≤ i → strip ≡ take i xs ++ drop i old → strip ≡ xs
-  slots-done h k e = e ∙ ap₂ ◌++◌ (take_all i xs h) (drop_all i old k) ∙ append-nil xs
+  pub front-done : i ≡ length xs → strip ≡ take i xs ++ drop i old → strip ≡ front xs old
+  front-done h e = e ∙ ap₂ (λ t n. t ++ drop n old) (take_all i xs (omega arith)) h

@@ -5,13 +5,14 @@ ghost use Rattle.automaton.specs.Words.{Letters};
 ghost use Rattle.automaton.specs.Making.{lookup_rule, zero_rule, rule_making, done};
 ghost use Rattle.automaton.specs.Lookups.{lookup-lawful};
 
-use crate::making::{check_rule, take_letters};
+use crate::making::{Alphabet, check_rule, take_checked};
 use crate::rule::Rule;
 use crate::words::Words;
 use fault::Fault;
 use std::marker::PhantomData;
 
-// Where the answer for a word stands in a table of letters, and how many places the table has.
+// Where the answer for a word stands in a table of letters, and how many places the table has. It is not exported, so
+// the two lookups of this crate are all there are.
 pub trait Lookup: Copy {
     ghost place: { ℕ → ℕ → ℕ → ℕ };
 
@@ -93,7 +94,7 @@ impl<'a, B: Lookup> LookupRule<'a, B> {
         ensures rule { MatchResult result (λ _. lookup_rule B.place self.new.table.words.q self.new.table.words.m self.new.table.l self.new.table.letters.now ≡ lookup_rule B.place q n l letters.now) (λ _. self.new ≡ self.old) }
     {
         let words = check_rule(q, n, l)?;
-        let letters = take_letters(words.q, B::places(words), letters)?;
+        let letters = take_checked(&Alphabet { q: words.q }, B::places(words), letters)?;
         *self = LookupRule {
             table: Table {
                 words,

@@ -1,6 +1,7 @@
 // The tests that rules, densities and rings are held to: the lowest stop code that fits is the refusal.
-ghost use Rattle.std.specs.Prelude.{◌≡◌, Ok, Err, MatchResult, not, nat_le, nat_lt, position};
+ghost use Rattle.std.specs.Prelude.{◌≡◌, Bool, Ok, Err, MatchResult, not, nat_lt, position};
 ghost use Rattle.std.specs.Option.{option_map_or};
+ghost use Rattle.fault.specs.declared.Stop.{Stop};
 ghost use Rattle.fault.specs.declared.Stop.TheVariants.{BadLetter, BadEntry};
 ghost use Rattle.fault.specs.Answers.{plainly, and_then};
 ghost use Rattle.fault.specs.Checks.{tested, each_fits};
@@ -11,6 +12,52 @@ use crate::words::Words;
 use charge::Charge;
 use fault::limits::{LEAST_LETTERS, MOST_LETTERS, MOST_WIDTH, MOST_WINDOW};
 use fault::{Fault, Stop};
+
+// What items are held to one by one, and the refusal of the first that fails.
+pub(crate) trait Test<X> {
+    ghost allows: { Self → X → Bool };
+
+    ghost STOP: { Stop };
+
+    const STOP: Stop;
+
+    fn allows(&self, item: X) -> bool
+        ensures { result ≡ allows self.now item };
+}
+
+// Letters below q.
+#[derive(Drop)]
+pub(crate) struct Alphabet {
+    pub q: usize,
+}
+
+impl Test<u8> for Alphabet {
+    ghost allows = { λ t a. nat_lt a t.q };
+
+    ghost STOP = { BadLetter };
+
+    const STOP: Stop = Stop::BadLetter;
+
+    fn allows(&self, item: u8) -> bool {
+        (item as usize) < self.q
+    }
+}
+
+// Charges that may be entries of a density.
+#[derive(Drop)]
+pub(crate) struct Entries;
+
+impl<C: Charge> Test<C> for Entries {
+    ghost allows = { λ _ x. may_enter C.kind x };
+
+    ghost STOP = { BadEntry };
+
+    const STOP: Stop = Stop::BadEntry;
+
+    fn allows(&self, item: C) -> bool {
+        item.is_entry()
+    }
+}
 
 // The words of a rule's window.
 pub(crate) fn check_rule(q: u64, n: u64, l: u64) -> Result<Words, Fault>
@@ -31,32 +78,18 @@ pub(crate) fn check_density(q: u64, k: u64) -> Result<Words, Fault>
     Words::few(q, k)
 }
 
-// Each letter is below q; else the index of the first that is not.
-pub(crate) fn check_letters(q: usize, letters: &[u8]) -> Result<(), Fault>
-    ensures { plainly result ≡ each_fits (λ a. nat_lt a q) BadLetter 0 letters.now }
+// Each item passes; else the index of the first that does not.
+pub(crate) fn check_each<X: Copy, T: Test<X>>(test: &T, items: &[X]) -> Result<(), Fault>
+    ensures { plainly result ≡ each_fits (T.allows test.now) T.STOP 0 items.now }
 {
-    refuse_first(Stop::BadLetter, past_alphabet(q, letters))
+    refuse_first(T::STOP, first_failing(test, items))
 }
 
-// The index of the first letter that is not below q.
-fn past_alphabet(q: usize, letters: &[u8]) -> Option<usize>
-    ensures { result ≡ position (λ a. nat_le q a) letters.now }
+// The index of the first item that does not pass.
+fn first_failing<X: Copy, T: Test<X>>(test: &T, items: &[X]) -> Option<usize>
+    ensures { result ≡ position (λ x. not (T.allows test.now x)) items.now }
 {
-    letters.iter().position(|a| *a as usize >= q)
-}
-
-// Each charge may be an entry of a density; else the index of the first that may not.
-fn check_entries<C: Charge>(entries: &[C]) -> Result<(), Fault>
-    ensures { plainly result ≡ each_fits (may_enter C.kind) BadEntry 0 entries.now }
-{
-    refuse_first(Stop::BadEntry, past_range(entries))
-}
-
-// The index of the first charge that may not be an entry of a density.
-fn past_range<C: Charge>(entries: &[C]) -> Option<usize>
-    ensures { result ≡ position (λ x. not (may_enter C.kind x)) entries.now }
-{
-    entries.iter().position(|x| !x.is_entry())
+    items.iter().position(|item| !test.allows(*item))
 }
 
 // The refusal that speaks of a place, if there is one.
@@ -66,29 +99,16 @@ fn refuse_first(stop: Stop, place: Option<usize>) -> Result<(), Fault>
     place.map_or(Ok(()), |i| Err(stop.at(i)))
 }
 
-// The first `need` letters of a strip, where there are as many and each is below q.
-pub(crate) fn take_letters<'a>(q: usize, need: usize, strip: &'a [u8]) -> Result<&'a [u8], Fault>
-    ensures { lent result ≡ taken (λ a. nat_lt a q) BadLetter need strip.now }
+// The first `need` items of a strip, where there are as many and each passes.
+pub(crate) fn take_checked<'a, X: Copy, T: Test<X>>(
+    test: &T,
+    need: usize,
+    strip: &'a [X],
+) -> Result<&'a [X], Fault>
+    ensures { lent result ≡ taken (T.allows test.now) T.STOP need strip.now }
 {
     Stop::ShortStrip.unless(need <= strip.len())?;
-    let letters = &strip[..need];
-    check_letters(q, letters)?;
-    Ok(letters)
-}
-
-// The word at the front of a strip.
-pub(crate) fn take_word<'a>(words: Words, strip: &'a [u8]) -> Result<&'a [u8], Fault>
-    ensures { lent result ≡ taken (λ a. nat_lt a words.q) BadLetter words.m strip.now }
-{
-    take_letters(words.q, words.m, strip)
-}
-
-// The charges at the front of a strip, one for each word, where there are as many and each may be an entry.
-pub(crate) fn take_entries<'a, C: Charge>(words: Words, strip: &'a [C]) -> Result<&'a [C], Fault>
-    ensures { lent result ≡ taken (may_enter C.kind) BadEntry words.count strip.now }
-{
-    Stop::ShortStrip.unless(words.count <= strip.len())?;
-    let entries = &strip[..words.count];
-    check_entries(entries)?;
-    Ok(entries)
+    let items = &strip[..need];
+    check_each(test, items)?;
+    Ok(items)
 }

@@ -6,7 +6,7 @@ ghost use Rattle.automaton.specs.Making.{pattern_density, zero_density, pattern_
 ghost use Rattle.automaton.specs.Lookups.{pattern_weighed};
 
 use crate::density::Density;
-use crate::making::{check_density, take_word};
+use crate::making::{Alphabet, check_density, take_checked};
 use crate::ring::Ring;
 use crate::words::Words;
 use charge::Charge;
@@ -57,7 +57,7 @@ impl<C: Charge> PatternDensity<C> {
         ensures density { MatchResult result (λ _. pattern_density C.kind self.new.words.q self.new.words.m self.new.pattern self.new.charge ≡ pattern_density C.kind q k (code q (take k word.now)) charge) (λ _. self.new ≡ self.old) }
     {
         let words = check_density(q, k)?;
-        let letters = take_word(words, word)?;
+        let letters = take_checked(&Alphabet { q: words.q }, words.m, word)?;
         Stop::BadEntry.unless(charge.is_entry())?;
         let ring = Ring {
             q: words.q,

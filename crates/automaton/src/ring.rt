@@ -1,5 +1,5 @@
 // The next ring, and the total of a ring.
-ghost use Rattle.std.specs.Prelude.{◌≡◌, ◌<◌, ◌≤◌, length, Ok, Err, MatchResult, slice_index};
+ghost use Rattle.std.specs.Prelude.{◌≡◌, ◌<◌, ◌≤◌, length, Ok, Err, MatchResult, slice_index, slice_set};
 ghost use Rattle.fault.specs.Limits.{most_letters, most_cells};
 ghost use Rattle.fault.specs.Refusals.{refusal};
 ghost use Rattle.fault.specs.Answers.{plainly, and_then, strip_after, front};
@@ -9,7 +9,7 @@ ghost use Rattle.automaton.specs.Meanings.{total as total_of};
 ghost use Rattle.automaton.specs.Making.{ring_checked, done, charged};
 
 use crate::density::Density;
-use crate::making::check_letters;
+use crate::making::{Alphabet, check_each};
 use crate::rule::Rule;
 use charge::Charge;
 use fault::limits::MOST_CELLS;
@@ -34,7 +34,7 @@ impl<'a> Ring<'a> {
     {
         Stop::BadLength.unless(1 <= cells.len() && cells.len() <= MOST_CELLS)?;
         Stop::ShortStrip.unless(cells.len() <= room)?;
-        check_letters(q, cells)?;
+        check_each(&Alphabet { q }, cells)?;
         Ok(Ring { q, cells })
     }
 
@@ -44,6 +44,7 @@ impl<'a> Ring<'a> {
         ensures { result ≡ code self.entry.q (window width (cell self.entry.cells.now) start) }
     {
         let mut code = 0;
+        // By index, since an index goes straight to the start, where a cycle of the cells would be walked up to it.
         for i in start..start + width {
             code = code * self.q + self.cells[i % self.cells.len()] as usize;
         }
@@ -61,14 +62,24 @@ impl<'a> Ring<'a> {
         rule.answer(self.window_code(rule.n(), start))
     }
 
+    // Writes the next letter of cell i to its place in the strip.
+    fn write_letter<R: Rule>(self, rule: &R, strip: &mut [u8], i: usize)
+        requires alphabet { (R.meaning rule.now).q ≡ self.q }
+        requires cell { i < length self.cells.now }
+        requires room { length self.cells.now ≤ length strip.old }
+        ensures { strip.new ≡ slice_set strip.old i (slice_index (next (R.meaning rule.now) self.entry.cells.now) i) }
+    {
+        strip[i] = self.next_letter(rule, i);
+    }
+
     // Writes the next letters to the front of the strip, where there is room.
     fn write_next<R: Rule>(self, rule: &R, strip: &mut [u8])
         requires alphabet { (R.meaning rule.now).q ≡ self.q }
         requires room { length self.cells.now ≤ length strip.old }
         ensures { strip.new ≡ front (next (R.meaning rule.now) self.entry.cells.now) strip.old }
     {
-        for (i, slot) in strip[..self.cells.len()].iter_mut().enumerate() {
-            *slot = self.next_letter(rule, i);
+        for (i, _) in self.cells.iter().enumerate() {
+            self.write_letter(rule, strip, i);
         }
     }
 

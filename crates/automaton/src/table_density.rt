@@ -5,7 +5,7 @@ ghost use Rattle.automaton.specs.Making.{table_density, zero_density, table_maki
 ghost use Rattle.automaton.specs.Lookups.{table_weighed};
 
 use crate::density::Density;
-use crate::making::{check_density, take_entries};
+use crate::making::{Entries, check_density, take_checked};
 use crate::words::Words;
 use charge::Charge;
 use fault::Fault;
@@ -53,7 +53,7 @@ impl<'a, C: Charge> TableDensity<'a, C> {
         ensures density { MatchResult result (λ _. table_density C.kind self.new.words.q self.new.words.m self.new.entries.now ≡ table_density C.kind q k entries.now) (λ _. self.new ≡ self.old) }
     {
         let words = check_density(q, k)?;
-        let entries = take_entries(words, entries)?;
+        let entries = take_checked(&Entries, words.count, entries)?;
         *self = TableDensity { words, entries };
         Ok(())
     }
