@@ -6,16 +6,16 @@ use Rattle.fault.specs.Refusals.{Refusal, refused_at}
 use Rattle.fault.specs.Answers.{and_then, strip_after}
 use Rattle.preset.specs.declared.entry.Entry.{Entry}
 use Rattle.preset.specs.declared.reader.Scan.{Scan}
-use Rattle.preset.specs.Answers.{Answer, passed}
+use Rattle.preset.specs.Answers.{Answer, skipped}
 use Rattle.preset.specs.Heads.{head_of}
 use Rattle.preset.specs.Presets.{Head, Preset, preset, head_read, letters_read, entries_read, ended, whole_preset, with_room, whole_reading}
 use Rattle.preset.specs.Scans.{Scanned}
 use Rattle.preset.proofs.Outcomes.{pair_1}
 
 -- what was passed over
-passed-ok : {X : Type 0} (a : Answer X) (rest : List ℕ) → passed a ≡ Ok (tt, rest) → (x : X) × (a ≡ Ok (x, rest))
-passed-ok (Ok p) rest e = let r : p.1 ≡ rest = pair_1 e in (p.0, ap (λ (bs : List ℕ). Ok (p.0, bs)) r)
-passed-ok (Err f) rest e = let z : ◌≡◌ {A = ℕ} 0 1 = cc in absurd (omega arith)
+skipped-ok : {X : Type 0} (a : Answer X) (rest : List ℕ) → skipped a ≡ Ok (tt, rest) → (x : X) × (a ≡ Ok (x, rest))
+skipped-ok (Ok p) rest e = let r : p.1 ≡ rest = pair_1 e in (p.0, ap (λ (bs : List ℕ). Ok (p.0, bs)) r)
+skipped-ok (Err f) rest e = let z : ◌≡◌ {A = ℕ} 0 1 = cc in absurd (omega arith)
 
 ended_some : (whole : ℕ) (p : Preset) (rest : List ℕ) → 0 < length rest → ended whole (p, rest) ≡ Err (refused_at SurplusBytes (whole - length rest))
 ended_some whole p [] h = absurd (omega arith)
@@ -36,8 +36,8 @@ module _ (bs : List ℕ) (s : Scan) (is : Scanned bs s) where
   found : (p : Preset) × (preset bs ≡ Ok (p, s.rest.bytes.now)) × (p.head ≡ head_of s.head)
   found =
       let h = head_of s.head in
-      let ls = passed-ok (letters_read (length bs) h s.letters.bytes.now) s.entries.bytes.now is.letters in
-      let es = passed-ok (entries_read (length bs) h s.entries.bytes.now) s.rest.bytes.now is.entries in
+      let ls = skipped-ok (letters_read (length bs) h s.letters.bytes.now) s.entries.bytes.now is.letters in
+      let es = skipped-ok (entries_read (length bs) h s.entries.bytes.now) s.rest.bytes.now is.entries in
       (record { head = h; letters = ls.0; entries = es.0 }, preset-is bs s.letters.bytes.now s.entries.bytes.now s.rest.bytes.now h ls.0 es.0 is.head ls.1 es.1, refl)
 
   module _ (letters : List ℕ) (entries : List Entry) (lroom : most_words ≤ length letters) (eroom : most_words ≤ length entries) where

@@ -6,7 +6,7 @@ use Rattle.fault.specs.declared.Stop.{Stop}
 use Rattle.fault.specs.Refusals.{Refusal, refused_at}
 use Rattle.fault.specs.Checks.{each_fits}
 use Rattle.fault.specs.Answers.{and_then, strip_after}
-use Rattle.preset.specs.Answers.{Answer, many, passed}
+use Rattle.preset.specs.Answers.{Answer, many, skipped}
 use Rattle.preset.specs.Items.{sent}
 
 -- items before others that are read
@@ -22,19 +22,19 @@ module _ {X : Type 0} (read : List ℕ → Answer X) where
   many_more : (n i : ℕ) (bs : List ℕ) (x : X) (tail : List ℕ) → i < n → Ok (x, tail) ≡ read bs → many read (n - i) bs ≡ ahead (x ∷ []) (many read (n - (i + 1)) tail)
   many_more n i bs x tail h e = let k : n - i ≡ suc (n - (i + 1)) = omega arith in rw (k, sym e)
 
-  passed-ahead : (xs : List X) (s : Answer (List X)) → passed (ahead xs s) ≡ passed s
-  passed-ahead xs (Ok p) = refl
-  passed-ahead xs (Err f) = refl
+  skipped-ahead : (xs : List X) (s : Answer (List X)) → skipped (ahead xs s) ≡ skipped s
+  skipped-ahead xs (Ok p) = refl
+  skipped-ahead xs (Err f) = refl
 
-  pub passed_more : (n i : ℕ) (bs : List ℕ) (x : X) (tail : List ℕ) → i < n → Ok (x, tail) ≡ read bs → passed (many read (n - i) bs) ≡ passed (many read (n - (i + 1)) tail)
-  passed_more n i bs x tail h e = ap passed (many_more n i bs x tail h e) ∙ passed-ahead (x ∷ []) (many read (n - (i + 1)) tail)
+  pub skipped_more : (n i : ℕ) (bs : List ℕ) (x : X) (tail : List ℕ) → i < n → Ok (x, tail) ≡ read bs → skipped (many read (n - i) bs) ≡ skipped (many read (n - (i + 1)) tail)
+  skipped_more n i bs x tail h e = ap skipped (many_more n i bs x tail h e) ∙ skipped-ahead (x ∷ []) (many read (n - (i + 1)) tail)
 
   -- the turn i of n, whose item is refused
   pub many-stop : (n i : ℕ) (bs : List ℕ) (f : Refusal) → i < n → Err f ≡ read bs → many read (n - i) bs ≡ Err f
   many-stop n i bs f h e = let k : n - i ≡ suc (n - (i + 1)) = omega arith in rw (k, sym e)
 
-  pub passed-all : (n i : ℕ) (bs : List ℕ) → n ≤ i → passed (many read (n - i) bs) ≡ Ok (tt, bs)
-  passed-all n i bs h = let k : n - i ≡ 0 = omega arith in rw k
+  pub skipped-all : (n i : ℕ) (bs : List ℕ) → n ≤ i → skipped (many read (n - i) bs) ≡ Ok (tt, bs)
+  skipped-all n i bs h = let k : n - i ≡ 0 = omega arith in rw k
 
   ok-ahead : (xs : List X) (s : Answer (List X)) → is_ok (ahead xs s) ≡ is_ok s
   ok-ahead xs (Ok p) = refl

@@ -20,5 +20,5 @@ many read zero bs = Ok ([], bs)
 many read (suc n) bs = and_then (read bs) (λ p. and_then (many read n p.1) (λ r. Ok (p.0 ∷ r.0, r.1)))
 
 -- the same answer where what is read is passed over
-abbrev pub passed : {X : Type 0} → Answer X → Answer (Unit {0})
-passed s = and_then s (λ p. Ok (tt, p.1))
+abbrev pub skipped : {X : Type 0} → Answer X → Answer (Unit {0})
+skipped s = and_then s (λ p. Ok (tt, p.1))

@@ -4,7 +4,7 @@ use Rattle.preset.specs.declared.entry.Entry.{Entry}
 use Rattle.preset.specs.declared.header.Head.{Head}
 use Rattle.preset.specs.declared.header.Header.{Header}
 use Rattle.preset.specs.declared.reader.Scan.{Scan}
-use Rattle.preset.specs.Answers.{passed}
+use Rattle.preset.specs.Answers.{skipped}
 use Rattle.preset.specs.Heads.{head_of}
 use Rattle.preset.specs.Presets.{head_read, letters_read, entries_read}
 use Rattle.preset.specs.Writes.{checked, fronts}
@@ -12,8 +12,8 @@ use Rattle.preset.specs.Writes.{checked, fronts}
 -- the letters, the entries and the rest of an input begin where a scan says, and all letters and entries are there
 pub record Scanned (bs : List ℕ) (s : Scan) : Type 0 where
   pub head : head_read (length bs) bs ≡ Ok (head_of s.head, s.letters.bytes.now)
-  pub letters : passed (letters_read (length bs) (head_of s.head) s.letters.bytes.now) ≡ Ok (tt, s.entries.bytes.now)
-  pub entries : passed (entries_read (length bs) (head_of s.head) s.entries.bytes.now) ≡ Ok (tt, s.rest.bytes.now)
+  pub letters : skipped (letters_read (length bs) (head_of s.head) s.letters.bytes.now) ≡ Ok (tt, s.entries.bytes.now)
+  pub entries : skipped (entries_read (length bs) (head_of s.head) s.entries.bytes.now) ≡ Ok (tt, s.rest.bytes.now)
   pub letters_whole : s.letters.whole ≡ length bs
   pub entries_whole : s.entries.whole ≡ length bs
   pub rest_whole : s.rest.whole ≡ length bs

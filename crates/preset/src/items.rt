@@ -2,7 +2,7 @@
 ghost use Rattle.std.specs.Prelude.{◌≡◌, ℕ, ◌≤◌, true, List, length, is_ok, Ok};
 ghost use Rattle.fault.specs.Answers.{plainly, front, strip_after};
 ghost use Rattle.fault.specs.Checks.{each_fits};
-ghost use Rattle.preset.specs.Answers.{many, passed};
+ghost use Rattle.preset.specs.Answers.{many, skipped};
 ghost use Rattle.preset.specs.Inputs.{Reads};
 ghost use Rattle.preset.specs.Items.{Format, sent};
 ghost use Rattle.preset.specs.declared.shape.Shape.{Shape};
@@ -46,7 +46,7 @@ pub(crate) trait Encode: Copy {
 
 // Passes over `count` items.
 pub(crate) fn skip<T: Item>(shape: Shape, input: &mut Unread<'_>, count: usize) -> Result<(), Fault>
-    ensures { Reads input.old input.new result (λ whole bs. passed (many (T.Item.format.reads shape whole) count bs)) }
+    ensures { Reads input.old input.new result (λ whole bs. skipped (many (T.Item.format.reads shape whole) count bs)) }
 {
     for _ in 0..count {
         T::read(shape, input)?;
