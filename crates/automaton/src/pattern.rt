@@ -1,8 +1,9 @@
 // Densities of one word and one charge.
-ghost use Rattle.std.specs.Prelude.{◌≡◌, ◌<◌, take, if◌then◌else◌, MatchResult, nat_eq};
+ghost use Rattle.std.specs.Prelude.{◌≡◌, ◌<◌, take, if◌then◌else◌, MatchResult, nat_eq, nat_lt};
 ghost use Rattle.fault.specs.Answers.{plainly};
 ghost use Rattle.automaton.specs.Words.{code};
-ghost use Rattle.automaton.specs.Making.{pattern_density, zero_density, pattern_making, done};
+ghost use Rattle.fault.specs.declared.Stop.TheVariants.{BadLetter};
+ghost use Rattle.automaton.specs.Making.{pattern_density, zero_density, pattern_making, done, lent, taken};
 ghost use Rattle.automaton.specs.Lookups.{pattern_weighed};
 
 use crate::density::Density;
@@ -57,7 +58,7 @@ impl<C: Charge> PatternDensity<C> {
         ensures density { MatchResult result (λ _. pattern_density C.kind self.new.words.q self.new.words.m self.new.pattern self.new.charge ≡ pattern_density C.kind q k (code q (take k word.now)) charge) (λ _. self.new ≡ self.old) }
     {
         let words = check_density(q, k)?;
-        let letters = take_checked(&Alphabet { q: words.q }, words.m, word)?;
+        let letters = pattern_letters(words, word)?;
         Stop::BadEntry.unless(charge.is_entry())?;
         let ring = Ring {
             q: words.q,
@@ -71,6 +72,13 @@ impl<C: Charge> PatternDensity<C> {
         };
         Ok(())
     }
+}
+
+// The letters of a pattern, from the front of a strip.
+fn pattern_letters<'a>(words: Words, strip: &'a [u8]) -> Result<&'a [u8], Fault>
+    ensures { lent result ≡ taken (λ a. nat_lt a words.q) BadLetter words.m strip.now }
+{
+    take_checked(&Alphabet { q: words.q }, words.m, strip)
 }
 
 // The charge on the pattern itself, and zero on every other code.

@@ -1,7 +1,8 @@
 // Densities by a lent table of their charges.
 ghost use Rattle.std.specs.Prelude.{◌≡◌, ◌<◌, ◌≤◌, length, MatchResult, slice_index_or};
 ghost use Rattle.fault.specs.Answers.{plainly};
-ghost use Rattle.automaton.specs.Making.{table_density, zero_density, table_making, done};
+ghost use Rattle.fault.specs.declared.Stop.TheVariants.{BadEntry};
+ghost use Rattle.automaton.specs.Making.{table_density, zero_density, table_making, may_enter, done, lent, taken};
 ghost use Rattle.automaton.specs.Lookups.{table_weighed};
 
 use crate::density::Density;
@@ -53,10 +54,17 @@ impl<'a, C: Charge> TableDensity<'a, C> {
         ensures density { MatchResult result (λ _. table_density C.kind self.new.words.q self.new.words.m self.new.entries.now ≡ table_density C.kind q k entries.now) (λ _. self.new ≡ self.old) }
     {
         let words = check_density(q, k)?;
-        let entries = take_checked(&Entries, words.count, entries)?;
+        let entries = table_entries(words, entries)?;
         *self = TableDensity { words, entries };
         Ok(())
     }
+}
+
+// The entries of a table, one for each word, from the front of a strip.
+fn table_entries<'a, C: Charge>(words: Words, strip: &'a [C]) -> Result<&'a [C], Fault>
+    ensures { lent result ≡ taken (may_enter C.kind) BadEntry words.count strip.now }
+{
+    take_checked(&Entries, words.count, strip)
 }
 
 // The charge at an index, and zero past the last.
