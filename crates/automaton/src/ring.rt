@@ -27,7 +27,7 @@ pub(crate) struct Ring<'a> {
 }
 
 impl<'a> Ring<'a> {
-    // The ring of these cells, with `room` for as many, or the refusal.
+    // The ring of these cells, with `room` for as many, or the refusal. The bound on q is the rule's or the density's.
     fn checked(q: usize, room: usize, cells: &'a [u8]) -> Result<Ring<'a>, Fault>
         requires { q ≤ 8 }
         ensures { MatchResult result (λ r. (ring_checked q room cells.now ≡ Ok r.cells.now) × (r.q ≡ q) × (r.cells.now ≡ cells.now) × (length cells.now ≤ room)) (λ f. ring_checked q room cells.now ≡ Err (refusal f)) }

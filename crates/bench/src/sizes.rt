@@ -32,7 +32,7 @@ pub struct TwoSizes {
     ghost larger: { words.m ≡ max first second },
 }
 
-// How many words of m letters two parts of these alphabets have.
+// How many words of m letters two parts of these alphabets have. The bounds on q are those of the first part.
 fn common_words(q: usize, other: usize, m: usize) -> Result<usize, Fault>
     requires { (2 ≤ q) × (q ≤ 8) }
     ensures { plainly result ≡ and_then (fitting q other m) (λ _. Ok (q ^ m)) }

@@ -37,7 +37,7 @@ pub struct Breaking<R, D> {
 }
 
 // A failing word by its code, the length of the ring that shows it, and two totals of that ring: before and after one
-// step, or under the first density and the second.
+// step, or under the first density and the second. The ring is on the strip that the caller lent.
 #[derive(Clone, Copy, PartialEq, Eq, Debug)]
 pub struct Break<C> {
     pub word: usize,

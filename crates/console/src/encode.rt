@@ -57,7 +57,8 @@ fn check_counts(draft: &Draft) -> Result<(), EncodeError>
     Ok(())
 }
 
-// The bytes of what a page holds, written to a strip that every preset fits.
+// The bytes of what a page holds, written to a strip that every preset fits. It is on the stack, so that no more is
+// taken from the heap than the preset takes.
 fn encode_draft(alloc: Global, draft: &Draft) -> Result<Vec<u8>, EncodeError>
     ensures { Answered (answered vec_items result) (bytes_of (content draft.now)) }
 {

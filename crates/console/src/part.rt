@@ -16,7 +16,7 @@ pub enum Part {
 }
 
 impl Part {
-    // The word that the part's line begins with.
+    // The word that the part's line begins with. No `Display`, as for a kind.
     pub fn name(self) -> &'static str
         ensures { result.now ≡ part_text self }
     {

@@ -9,11 +9,12 @@ use automaton::{Density, total};
 use charge::Charge;
 use fault::Fault;
 
-// The longest ring that is shown: a word of 12 letters and 11 zeros.
+// The longest ring that is shown: a word of 12 letters and 11 zeros. Arrays of so many cells hold it, since nothing here
+// is on the heap.
 pub const MOST_SHOWN: usize = 23;
 
 // Writes the word of a code, of as many letters as there is room for. The range is reversed, and not the slots: of
-// reversed slots a proof knows nothing.
+// reversed slots a proof knows nothing. The bounds on q are the label's.
 fn write_word(q: usize, code: usize, letters: &mut [u8])
     requires { (1 ≤ q) × (q ≤ 8) }
     ensures { letters.new ≡ word q (length letters.old) code }

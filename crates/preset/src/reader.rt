@@ -69,7 +69,8 @@ fn fill_strips(input: &[u8], scan: Scan, letters: &mut [u8], entries: &mut [Entr
     fill::<Entry>(shape, scan.entries, entries, scan.head.entry_count());
 }
 
-// The preset at the front of the input goes to the front of the strips, and the bytes after it are handed on.
+// The preset at the front of the input goes to the front of the strips, and the bytes after it are handed on. The strips
+// are the caller's, of any length, so they are no `Strips`.
 pub fn read_preset<'a>(
     input: &'a [u8],
     letters: &mut [u8],

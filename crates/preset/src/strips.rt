@@ -5,7 +5,7 @@ use crate::loaded::Loaded;
 use crate::reader::{STRIP, read_parts};
 use fault::Fault;
 
-// A strip for the letters and one for the entries.
+// A strip for the letters and one for the entries: arrays, since nothing here is on the heap.
 #[derive(Drop)]
 pub struct Strips {
     letters: [u8; STRIP],

@@ -102,7 +102,7 @@ fn put_preset(preset: &Loaded<'_>, out: &mut [u8]) -> usize
 }
 
 // Writes a preset to the front of the byte strip and answers how many bytes it takes. Of strips that are longer
-// than the header asks, the fronts are written.
+// than the header asks, the fronts are written. They are no `Loaded`, since they may be of any header.
 #[tactic(auto, using(crate::proofs::PresetLaws::preset_reads_back))]
 pub fn write_preset(
     header: Header,

@@ -33,6 +33,7 @@ fn new_strips(alloc: Global) -> Result<Strips, AllocError> {
     })
 }
 
+// The script writes small letters alone, so this is no `to_digit`.
 fn digit(byte: u8) -> u8
     ensures { result < 16 }
 {
