@@ -129,7 +129,8 @@ fn case_as<C: Tried, W: Write>(
     }
 }
 
-// Makes the call of a line and prints its result, if it has one of its own.
+// Makes the call of a line and prints its result, if it has one of its own. By cases on the kind, since what is done for
+// each is a generic function.
 fn case<W: Write>(alloc: Global, out: &mut W, numbers: &mut Numbers) -> Result<(), CaseError> {
     let call = Call::from(numbers.count());
     let kind = ChargeKind::try_from(numbers.plain()).unwrap_or(ChargeKind::Both);
