@@ -1,6 +1,7 @@
 # Writes the presets in presets/: for each one NAME.preset (its bytes) and
 # NAME.txt (its text), and damaged.preset, which is no preset and has no text.
-# Running it again writes the same files.
+# Writes the gate's run of the program, crates/ringbench/{args,data,stdout,status}:
+# some of these presets are judged. Running it again writes the same files.
 
 import sys
 from pathlib import Path
@@ -13,7 +14,9 @@ from preset_format import (
 )
 from ring_judge import KINDS, judge, step, table_density, table_rule, words
 
-PRESETS_FOLDER = Path(__file__).resolve().parent.parent / "presets"
+ROOT = Path(__file__).resolve().parent.parent
+PRESETS_FOLDER = ROOT / "presets"
+RUN_FOLDER = ROOT / "crates" / "ringbench"
 
 
 def rule_letters(q, n, answer):
@@ -159,6 +162,38 @@ def check_damaged():
         raise AssertionError("read")
 
 
+# The gate's run of the program judges these, each kind of line among them.
+JUDGED = ("rule184", "damaged", "rule90", "pitch-ring-b", "both-rotate", "wide-break")
+
+
+def verdict_line(name, data):
+    """The line that `ringbench judge` prints of a file."""
+    try:
+        preset = read_whole(data)
+    except Refusal as refusal:
+        return f"{name}\trefused\t{refusal.code}\t{refusal.place}"
+    found = finding(preset)
+    if found.word is None:
+        return f"{name}\tholds"
+    digits = ("".join(map(str, letters)) for letters in (found.word, found.ring))
+    totals = map(KINDS[preset.kind].text, (found.first, found.second))
+    return "\t".join((name, "breaks", *digits, *totals))
+
+
+def write_run():
+    """The gate's run: its files and arguments, and the output and status that are due."""
+    names = [f"{name}.preset" for name in JUDGED]
+    lines = []
+    (RUN_FOLDER / "data").mkdir(exist_ok=True)
+    for name in names:
+        data = (PRESETS_FOLDER / name).read_bytes()
+        (RUN_FOLDER / "data" / name).write_bytes(data)
+        lines.append(verdict_line(name, data))
+    (RUN_FOLDER / "args").write_text("\n".join(["judge", *names]) + "\n")
+    (RUN_FOLDER / "stdout").write_text("\n".join(lines) + "\n")
+    (RUN_FOLDER / "status").write_text("1\n")
+
+
 def write_files(name, preset):
     data = write_preset(preset)
     assert read_whole(data) == preset, name
@@ -177,6 +212,7 @@ def main():
     for name, preset in presets.items():
         write_files(name, preset)
     (PRESETS_FOLDER / "damaged.preset").write_bytes(damaged_bytes())
+    write_run()
 
 
 if __name__ == "__main__":

@@ -6,7 +6,7 @@ use Rattle.fault.specs.declared.Stop.TheVariants.{ShortStrip}
 use Rattle.fault.specs.Answers.{and_then}
 use Rattle.fault.specs.Refusals.{Refusal, refused_at}
 use Rattle.fault.proofs.Powers.{too_many}
-use Rattle.charge.specs.Groups.{Kind, Equality, minus}
+use Rattle.charge.specs.Groups.{Kind, minus}
 use Rattle.charge.proofs.Sums.{same_from-minus, minus_from-same}
 use Rattle.automaton.specs.Words.{Letters, Word, code, word}
 use Rattle.automaton.specs.Meanings.{Local, Weights, Lawful, Weighed, DensitySizes, weight, next, total}
@@ -35,13 +35,13 @@ FoundTells K q m D A B most r None = Agree q A B × OnlyTable K.group D padding 
 FoundTells K q m D A B most r (Some f) = Apart q most A B f.1
 
 -- a label D on words of m letters that sums on each ring to what A is more than B
-module _ {C : Type 0} (K : Kind C) (E : Equality K.group) (q m : ℕ) (D A B : List ℕ → K.group.Carrier) (most r : ℕ) (sizes : DensitySizes q m) (bound : 2 * m - 1 ≤ most) (rest : r ≡ m - 1)
+module _ {C : Type 0} (K : Kind C) (q m : ℕ) (D A B : List ℕ → K.group.Carrier) (most r : ℕ) (sizes : DensitySizes q m) (bound : 2 * m - 1 ≤ most) (rest : r ≡ m - 1)
     (gain : (c : List ℕ) → 1 ≤ length c → ring_sum K.group D m c ≡ minus K.group (A c) (B c)) where
   some : 0 < q
   some = omega (arith, sizes.0)
 
-  law : LabelLaw K E padding (listed q m D)
-  law = label_law K E padding (listed q m D) (listed_weighed q m D sizes) some
+  law : LabelLaw K padding (listed q m D)
+  law = label_law K padding (listed q m D) (listed_weighed q m D sizes) some
 
   sums : (c : List ℕ) → 1 ≤ length c → Letters q c → ring_sum K.group (weight K.group (listed q m D)) m c ≡ minus K.group (A c) (B c)
   sums c long below = ring_sum-same K.group (weight K.group (listed q m D)) D q m (listed_at K q m D some) c long below ∙ gain c long
@@ -56,7 +56,7 @@ module _ {C : Type 0} (K : Kind C) (E : Equality K.group) (q m : ℕ) (D A B : L
       whole : suc (m - 1) ≡ m
       whole = omega (arith, sizes.2)
 
-  told : (f : Option (ℕ × List ℕ)) → failure K E padding (listed q m D) ≡ f → Shows K padding (listed q m D) f → FoundTells K q m D A B most r f
+  told : (f : Option (ℕ × List ℕ)) → failure K padding (listed q m D) ≡ f → Shows K padding (listed q m D) f → FoundTells K q m D A B most r f
   told None e shows = (
     (λ c long below. same_from-minus K.group (A c) (B c) (sym (sums c long below) ∙ law.0.0 e c long below)),
     subst (λ (n : ℕ). OnlyTable K.group D padding q n (J K padding (listed q m D))) (sym rest) (only shows),
@@ -68,8 +68,8 @@ module _ {C : Type 0} (K : Kind C) (E : Equality K.group) (q m : ℕ) (D A B : L
     λ same. shows.3 (sums f.1 shows.0 shows.2 ∙ minus_from-same K.group (A f.1) (B f.1) same),
   )
 
-  pub found_right : FoundTells K q m D A B most r (failure K E padding (listed q m D))
-  found_right = told (failure K E padding (listed q m D)) refl law.1
+  pub found_right : FoundTells K q m D A B most r (failure K padding (listed q m D))
+  found_right = told (failure K padding (listed q m D)) refl law.1
 
 -- what parts of one alphabet with few words have passed
 pub fits : (q other m : ℕ) → fitting q other m ≡ Ok tt → (q ≡ other) × (q ^ m ≤ 4096)
@@ -81,22 +81,22 @@ label-sizes q m two eight one few = (two, eight, one, short, few)
     short : m ≤ 12
     short = elim (dec_lt 12 m) [ yes h ↦ absurd (omega (arith, too_many q m two h)) | no h ↦ omega arith ]
 
-module _ {C : Type 0} (K : Kind C) (E : Equality K.group) (crossing_room ring_room : ℕ) where
+module _ {C : Type 0} (K : Kind C) (crossing_room ring_room : ℕ) where
   -- what holds of every refusal, and of what is found where nothing is refused
   found_in : (P : Result (Option (ℕ × List ℕ)) Refusal → Type 0) (L : Weights K.group.Carrier) (t : Result (Unit {0}) Refusal) → ((f : Refusal) → P (Err f)) →
-      (t ≡ Ok tt → P (Ok (failure K E padding L))) → P (and_then t (λ _. examined K E padding L crossing_room ring_room))
+      (t ≡ Ok tt → P (Ok (failure K padding L))) → P (and_then t (λ _. examined K padding L crossing_room ring_room))
   found_in P L (Err f) refused found = refused f
   found_in P L (Ok u) refused found = roomy (leb (L.q ^ (L.k - 1)) crossing_room && leb (2 * L.k - 1) ring_room)
     where
-      roomy : (b : Bool) → P (cond b (Ok (failure K E padding L)) (Err (refused_at ShortStrip 0)))
+      roomy : (b : Bool) → P (cond b (Ok (failure K padding L)) (Err (refused_at ShortStrip 0)))
       roomy true = found refl
       roomy false = refused (refused_at ShortStrip 0)
 
-  pub verdict_right : (r : Local) (d : Weights K.group.Carrier) → Lawful r → Weighed d → VerdictRight K r d (judge_found K E crossing_room ring_room r d)
+  pub verdict_right : (r : Local) (d : Weights K.group.Carrier) → Lawful r → Weighed d → VerdictRight K r d (judge_found K crossing_room ring_room r d)
   verdict_right r d lawful weighed =
       found_in (VerdictRight K r d) (rule_label_list K.group r d) (bench_checked r d) (λ f. tt)
-      (λ e. said (failure K E padding (rule_label_list K.group r d))
-      (found_right K E r.q (r.n + d.k - 1) (rule_label K.group r d) (λ c. total K.group d (next r c)) (total K.group d) (2 * (r.n + d.k) - 3) (r.n + d.k - 2)
+      (λ e. said (failure K padding (rule_label_list K.group r d))
+      (found_right K r.q (r.n + d.k - 1) (rule_label K.group r d) (λ c. total K.group d (next r c)) (total K.group d) (2 * (r.n + d.k) - 3) (r.n + d.k - 2)
       (label-sizes r.q (r.n + d.k - 1) lawful.sizes.0 lawful.sizes.1 (omega (arith, lawful.sizes.2, weighed.sizes.2)) (fits r.q d.q (r.n + d.k - 1) e).1)
       (omega arith) (omega arith) (step_gains K.group r d lawful.sizes.4)))
     where
@@ -106,11 +106,11 @@ module _ {C : Type 0} (K : Kind C) (E : Equality K.group) (crossing_room ring_ro
       said None t = t
       said (Some f) t = t
 
-  pub comparison_right : (d e : Weights K.group.Carrier) → Weighed d → Weighed e → ComparisonRight K d e (compare_found K E crossing_room ring_room d e)
+  pub comparison_right : (d e : Weights K.group.Carrier) → Weighed d → Weighed e → ComparisonRight K d e (compare_found K crossing_room ring_room d e)
   comparison_right d e weighed weighed' =
       found_in (ComparisonRight K d e) (two_label_list K.group d e) (pair_checked d e) (λ f. tt)
-      (λ t. said (failure K E padding (two_label_list K.group d e))
-      (found_right K E d.q (max d.k e.k) (two_label K.group d e) (total K.group d) (total K.group e) (2 * max d.k e.k - 1) (max d.k e.k - 1)
+      (λ t. said (failure K padding (two_label_list K.group d e))
+      (found_right K d.q (max d.k e.k) (two_label K.group d e) (total K.group d) (total K.group e) (2 * max d.k e.k - 1) (max d.k e.k - 1)
       (label-sizes d.q (max d.k e.k) weighed.sizes.0 weighed.sizes.1 (omega (arith, weighed.sizes.2)) (fits d.q e.q (max d.k e.k) t).1)
       (omega arith) refl (λ c long. two_gains K.group d e c)))
     where

@@ -5,7 +5,7 @@ use Rattle.fault.specs.declared.Stop.TheVariants.{ShortStrip}
 use Rattle.fault.specs.Limits.{most_words}
 use Rattle.fault.specs.Refusals.{Refusal, refused_at}
 use Rattle.std.proofs.lemmas.Bool.Decides.{nat_tests}
-use Rattle.charge.specs.Groups.{Kind, Equality}
+use Rattle.charge.specs.Groups.{Kind}
 use Rattle.automaton.specs.Words.{Letters}
 use Rattle.automaton.specs.Making.{ring_checked, done}
 use Rattle.automaton.specs.Meanings.{Local, Weights, Lawful, Weighed, next, total}
@@ -28,13 +28,13 @@ pub record Left {C : Type 0} (K : Kind C) (found : Result (Option (ℕ × List �
   pub crossings : FrontMeans K (unless_refused found all) old new
   pub ring : now ≡ front (ring_written found) was
 
-module _ {C : Type 0} (K : Kind C) (E : Equality K.group) (a b : ℕ) (L M : Weights K.group.Carrier) (t : Result (Unit {0}) Refusal) (said : Result (Option (ℕ × ℕ)) Refusal) (old new : List C) (was now : List ℕ) where
+module _ {C : Type 0} (K : Kind C) (a b : ℕ) (L M : Weights K.group.Carrier) (t : Result (Unit {0}) Refusal) (said : Result (Option (ℕ × ℕ)) Refusal) (old new : List C) (was now : List ℕ) where
   -- the same label under another name, once the sizes have passed
-  pub left_passed : t ≡ Ok tt → L ≡ M → said ≡ counted (examined K E padding L a b) → FrontMeans K (crossings_written K E padding L a b) old new →
-      now ≡ front (ring_written (examined K E padding L a b)) was → Left K (and_then t (λ _. examined K E padding M a b)) (crossings K padding M) said old new was now
+  pub left_passed : t ≡ Ok tt → L ≡ M → said ≡ counted (examined K padding L a b) → FrontMeans K (crossings_written K padding L a b) old new →
+      now ≡ front (ring_written (examined K padding L a b)) was → Left K (and_then t (λ _. examined K padding M a b)) (crossings K padding M) said old new was now
   left_passed passed same x y z =
-      subst (λ (u : Result (Unit {0}) Refusal). Left K (and_then u (λ _. examined K E padding M a b)) (crossings K padding M) said old new was now) (sym passed)
-      (subst (λ (N : Weights K.group.Carrier). Left K (examined K E padding N a b) (crossings K padding N) said old new was now) same (record { answer = x; crossings = y; ring = z }))
+      subst (λ (u : Result (Unit {0}) Refusal). Left K (and_then u (λ _. examined K padding M a b)) (crossings K padding M) said old new was now) (sym passed)
+      (subst (λ (N : Weights K.group.Carrier). Left K (examined K padding N a b) (crossings K padding N) said old new was now) same (record { answer = x; crossings = y; ring = z }))
 
 -- sizes that a rule and a density have are those of a bench
 pub sizes-pass : {A : Type 0} (s : RuleSizes) (r : Local) (d : Weights A) → SizesOf s r d → bench_checked r d ≡ Ok tt
@@ -44,9 +44,9 @@ sizes-pass s r d sized =
     grind (arith, nat_tests)
 
 -- what such a bench is refused by
-pub only_short : {C Y : Type 0} (K : Kind C) (E : Equality K.group) (a b : ℕ) (r : Local) (d : Weights K.group.Carrier) (h : Option (ℕ × List ℕ) → Y) (f : Refusal) → bench_checked r d ≡ Ok tt →
-    Err f ≡ and_then (judge_found K E a b r d) (λ x. Ok (h x)) → f ≡ refused_at ShortStrip 0
-only_short K E a b r d h f passed e = grind (arith, nat_tests)
+pub only_short : {C Y : Type 0} (K : Kind C) (a b : ℕ) (r : Local) (d : Weights K.group.Carrier) (h : Option (ℕ × List ℕ) → Y) (f : Refusal) → bench_checked r d ≡ Ok tt →
+    Err f ≡ and_then (judge_found K a b r d) (λ x. Ok (h x)) → f ≡ refused_at ShortStrip 0
+only_short K a b r d h f passed e = grind (arith, nat_tests)
 
 -- a label that keeps the sizes that its parts have is the label of its parts
 pub rule_list-same : {C : Type 0} (K : Kind C) (s : RuleSizes) (r : Local) (d : Weights K.group.Carrier) →
@@ -115,28 +115,28 @@ passed q other m x y e = through (fitting q other m) e
     through (Ok u) e = refl
     through (Err f) e = absurd (grind (arith, e))
 
-module _ {C : Type 0} (K : Kind C) (E : Equality K.group) (a b : ℕ) (w n : ℕ) (was strip : List ℕ) where
-  pub judge-shown : (r : Local) (d : Weights K.group.Carrier) → Lawful r → Weighed d → Ok (Some (w, n)) ≡ counted (judge_found K E a b r d) →
-      strip ≡ front (ring_written (judge_found K E a b r d)) was → Shown r.q (judge_found K E a b r d) w n strip × (r.q ≡ d.q)
+module _ {C : Type 0} (K : Kind C) (a b : ℕ) (w n : ℕ) (was strip : List ℕ) where
+  pub judge-shown : (r : Local) (d : Weights K.group.Carrier) → Lawful r → Weighed d → Ok (Some (w, n)) ≡ counted (judge_found K a b r d) →
+      strip ≡ front (ring_written (judge_found K a b r d)) was → Shown r.q (judge_found K a b r d) w n strip × (r.q ≡ d.q)
   judge-shown r d lawful weighed e s =
-      let c = counted-some (judge_found K E a b r d) w n e in
+      let c = counted-some (judge_found K a b r d) w n e in
       let fit = fits r.q d.q (r.n + d.k - 1) (passed r.q d.q (r.n + d.k - 1) _ _ c.1) in
       let sizes = label-sizes r.q (r.n + d.k - 1) lawful.sizes.0 lawful.sizes.1 (omega (arith, lawful.sizes.2, weighed.sizes.2)) fit.1 in (
-        shown_in r.q w n (judge_found K E a b r d) was strip e s
+        shown_in r.q w n (judge_found K a b r d) was strip e s
             (λ ring is.
-            let apart = subst (VerdictRight K r d) is (verdict_right K E a b r d lawful weighed) in
+            let apart = subst (VerdictRight K r d) is (verdict_right K a b r d lawful weighed) in
             (apart.0, omega (arith, apart.1, sizes.3), apart.2)),
         fit.0,
       )
 
-  pub compare-shown : (d e : Weights K.group.Carrier) → Weighed d → Weighed e → Ok (Some (w, n)) ≡ counted (compare_found K E a b d e) →
-      strip ≡ front (ring_written (compare_found K E a b d e)) was → Shown d.q (compare_found K E a b d e) w n strip × (d.q ≡ e.q)
+  pub compare-shown : (d e : Weights K.group.Carrier) → Weighed d → Weighed e → Ok (Some (w, n)) ≡ counted (compare_found K a b d e) →
+      strip ≡ front (ring_written (compare_found K a b d e)) was → Shown d.q (compare_found K a b d e) w n strip × (d.q ≡ e.q)
   compare-shown d e weighed weighed' h s =
-      let c = counted-some (compare_found K E a b d e) w n h in
+      let c = counted-some (compare_found K a b d e) w n h in
       let fit = fits d.q e.q (max d.k e.k) (passed d.q e.q (max d.k e.k) _ _ c.1) in (
-        shown_in d.q w n (compare_found K E a b d e) was strip h s
+        shown_in d.q w n (compare_found K a b d e) was strip h s
             (λ ring is.
-            let apart = subst (ComparisonRight K d e) is (comparison_right K E a b d e weighed weighed') in
+            let apart = subst (ComparisonRight K d e) is (comparison_right K a b d e weighed weighed') in
             (apart.0, omega (arith, apart.1, weighed.sizes.3, weighed'.sizes.3), apart.2)),
         fit.0,
       )

@@ -6,11 +6,11 @@ use Rattle.fault.specs.Answers.{and_then}
 use Rattle.fault.specs.Checks.{tested}
 use Rattle.fault.specs.Limits.{few_words}
 use Rattle.fault.specs.Refusals.{Refusal}
-use Rattle.charge.specs.Groups.{Kind, Equality}
+use Rattle.charge.specs.Groups.{Kind}
 use Rattle.automaton.specs.Words.{Letters}
 use Rattle.automaton.specs.Meanings.{Local, Weights, next, total}
 use Rattle.criterion.specs.Answers.{examined, unless_refused}
-use Rattle.criterion.specs.Search.{padding, crossings}
+use Rattle.criterion.specs.Search.{padding, most_shown, crossings}
 use Rattle.bench.specs.Labels.{rule_label_list, two_label_list}
 
 -- A break: the failing word's code, the length of the ring shown, and two totals of that ring, before and after one
@@ -29,9 +29,9 @@ pub data Comparison (A : Type 0) : Type 0 where
   agree : Comparison A
   differ : Broken A → Comparison A
 
--- a ring that may be shown: of letters below q, and no longer than a word of 12 letters and 11 zeros
+-- a ring that may be shown: of letters below q, and no longer than the longest that is
 abbrev pub Ring : ℕ → List ℕ → Type 0
-Ring q c = (1 ≤ length c) × (length c ≤ 23) × Letters q c
+Ring q c = (1 ≤ length c) × (length c ≤ most_shown) × Letters q c
 
 -- the totals of the ring that shows a failing word
 abbrev pub broken : {A : Type 0} → (List ℕ → A) → (List ℕ → A) → ℕ × List ℕ → Broken A
@@ -58,12 +58,12 @@ abbrev pub pair_checked : {A : Type 0} → Weights A → Weights A → Result (U
 pair_checked d e = fitting d.q e.q (max d.k e.k)
 
 -- what is found for strips of these lengths: the failing word with the ring that shows it, if a word fails
-module _ {C : Type 0} (K : Kind C) (E : Equality K.group) (crossing_room ring_room : ℕ) where
+module _ {C : Type 0} (K : Kind C) (crossing_room ring_room : ℕ) where
   abbrev pub judge_found : Local → Weights K.group.Carrier → Result (Option (ℕ × List ℕ)) Refusal
-  judge_found r d = and_then (bench_checked r d) (λ _. examined K E padding (rule_label_list K.group r d) crossing_room ring_room)
+  judge_found r d = and_then (bench_checked r d) (λ _. examined K padding (rule_label_list K.group r d) crossing_room ring_room)
 
   abbrev pub compare_found : Weights K.group.Carrier → Weights K.group.Carrier → Result (Option (ℕ × List ℕ)) Refusal
-  compare_found d e = and_then (pair_checked d e) (λ _. examined K E padding (two_label_list K.group d e) crossing_room ring_room)
+  compare_found d e = and_then (pair_checked d e) (λ _. examined K padding (two_label_list K.group d e) crossing_room ring_room)
 
   -- the crossings that are written: none where the call is refused
   abbrev pub judge_crossings : Local → Weights K.group.Carrier → List K.group.Carrier

@@ -22,9 +22,9 @@ fn compare_words<C: Charge, D: Density<C>, E: Density<C>>(
     crossings: &mut [C],
     ring: &mut [u8],
 ) -> Result<Option<Failure>, Fault>
-    ensures answer { seen result ≡ counted (compare_found C.kind C.equality (length crossings.old) (length ring.old) (D.weights C.kind first.now) (E.weights C.kind second.now)) }
-    ensures crossings { FrontMeans C.kind (compare_crossings C.kind C.equality (length crossings.old) (length ring.old) (D.weights C.kind first.now) (E.weights C.kind second.now)) crossings.old crossings.new }
-    ensures ring { ring.new ≡ front (ring_written (compare_found C.kind C.equality (length crossings.old) (length ring.old) (D.weights C.kind first.now) (E.weights C.kind second.now))) ring.old }
+    ensures answer { seen result ≡ counted (compare_found C.kind (length crossings.old) (length ring.old) (D.weights C.kind first.now) (E.weights C.kind second.now)) }
+    ensures crossings { FrontMeans C.kind (compare_crossings C.kind (length crossings.old) (length ring.old) (D.weights C.kind first.now) (E.weights C.kind second.now)) crossings.old crossings.new }
+    ensures ring { ring.new ≡ front (ring_written (compare_found C.kind (length crossings.old) (length ring.old) (D.weights C.kind first.now) (E.weights C.kind second.now))) ring.old }
 {
     let sizes = TwoSizes::of(first, second)?;
     let label = TwoLabel {
@@ -42,9 +42,9 @@ fn compare_on<C: Charge, D: Density<C>, E: Density<C>>(
     crossings: &mut [C],
     ring: &mut [u8],
 ) -> Result<Option<Break<C>>, Fault>
-    ensures answer { compare_said C.kind result ≡ comparing C.kind C.equality (length crossings.old) (length ring.old) (D.weights C.kind first.now) (E.weights C.kind second.now) }
-    ensures crossings { FrontMeans C.kind (compare_crossings C.kind C.equality (length crossings.old) (length ring.old) (D.weights C.kind first.now) (E.weights C.kind second.now)) crossings.old crossings.new }
-    ensures ring { ring.new ≡ front (ring_written (compare_found C.kind C.equality (length crossings.old) (length ring.old) (D.weights C.kind first.now) (E.weights C.kind second.now))) ring.old }
+    ensures answer { compare_said C.kind result ≡ comparing C.kind (length crossings.old) (length ring.old) (D.weights C.kind first.now) (E.weights C.kind second.now) }
+    ensures crossings { FrontMeans C.kind (compare_crossings C.kind (length crossings.old) (length ring.old) (D.weights C.kind first.now) (E.weights C.kind second.now)) crossings.old crossings.new }
+    ensures ring { ring.new ≡ front (ring_written (compare_found C.kind (length crossings.old) (length ring.old) (D.weights C.kind first.now) (E.weights C.kind second.now))) ring.old }
 {
     let Some(Failure { word, len }) = compare_words(first, second, crossings, ring)? else {
         return Ok(None);
@@ -67,10 +67,10 @@ pub fn compare<C: Charge, D: Density<C>, E: Density<C>>(
     crossings: &mut [C],
     ring: &mut [u8],
 ) -> Result<Option<Break<C>>, Fault>
-    ensures answer { compare_said C.kind result ≡ comparing C.kind C.equality (length crossings.old) (length ring.old) (D.weights C.kind first.now) (E.weights C.kind second.now) }
-    ensures crossings { FrontMeans C.kind (compare_crossings C.kind C.equality (length crossings.old) (length ring.old) (D.weights C.kind first.now) (E.weights C.kind second.now)) crossings.old crossings.new }
-    ensures ring { ring.new ≡ front (ring_written (compare_found C.kind C.equality (length crossings.old) (length ring.old) (D.weights C.kind first.now) (E.weights C.kind second.now))) ring.old }
-    ensures right { ComparisonRight C.kind (D.weights C.kind first.now) (E.weights C.kind second.now) (compare_found C.kind C.equality (length crossings.old) (length ring.old) (D.weights C.kind first.now) (E.weights C.kind second.now)) }
+    ensures answer { compare_said C.kind result ≡ comparing C.kind (length crossings.old) (length ring.old) (D.weights C.kind first.now) (E.weights C.kind second.now) }
+    ensures crossings { FrontMeans C.kind (compare_crossings C.kind (length crossings.old) (length ring.old) (D.weights C.kind first.now) (E.weights C.kind second.now)) crossings.old crossings.new }
+    ensures ring { ring.new ≡ front (ring_written (compare_found C.kind (length crossings.old) (length ring.old) (D.weights C.kind first.now) (E.weights C.kind second.now))) ring.old }
+    ensures right { ComparisonRight C.kind (D.weights C.kind first.now) (E.weights C.kind second.now) (compare_found C.kind (length crossings.old) (length ring.old) (D.weights C.kind first.now) (E.weights C.kind second.now)) }
     ensures whole { ComparisonWhole }
 {
     compare_on(first, second, crossings, ring)

@@ -79,9 +79,9 @@ impl<C: Charge, R: Rule, D: Density<C>> Draft<C, R, D> {
     // The first word that fails under the label, on lent strips. The two strips make no struct: clauses would reach each
     // of them through two references.
     fn judge_words(&self, crossings: &mut [C], ring: &mut [u8]) -> Result<Option<Failure>, Fault>
-        ensures answer { seen result ≡ counted (judge_found C.kind C.equality (length crossings.old) (length ring.old) (R.meaning self.now.parts.rule) (D.weights C.kind self.now.parts.density)) }
-        ensures crossings { FrontMeans C.kind (judge_crossings C.kind C.equality (length crossings.old) (length ring.old) (R.meaning self.now.parts.rule) (D.weights C.kind self.now.parts.density)) crossings.old crossings.new }
-        ensures ring { ring.new ≡ front (ring_written (judge_found C.kind C.equality (length crossings.old) (length ring.old) (R.meaning self.now.parts.rule) (D.weights C.kind self.now.parts.density))) ring.old }
+        ensures answer { seen result ≡ counted (judge_found C.kind (length crossings.old) (length ring.old) (R.meaning self.now.parts.rule) (D.weights C.kind self.now.parts.density)) }
+        ensures crossings { FrontMeans C.kind (judge_crossings C.kind (length crossings.old) (length ring.old) (R.meaning self.now.parts.rule) (D.weights C.kind self.now.parts.density)) crossings.old crossings.new }
+        ensures ring { ring.new ≡ front (ring_written (judge_found C.kind (length crossings.old) (length ring.old) (R.meaning self.now.parts.rule) (D.weights C.kind self.now.parts.density))) ring.old }
     {
         let label = RuleLabel {
             parts: &self.parts,
@@ -92,9 +92,9 @@ impl<C: Charge, R: Rule, D: Density<C>> Draft<C, R, D> {
 
     // Judges the rule under the density on lent strips.
     fn judge_on(&self, crossings: &mut [C], ring: &mut [u8]) -> Result<Option<Break<C>>, Fault>
-        ensures answer { found_said C.kind result ≡ and_then (judge_found C.kind C.equality (length crossings.old) (length ring.old) (R.meaning self.now.parts.rule) (D.weights C.kind self.now.parts.density)) (λ f. Ok (option_map (broken (total_of C.kind.group (D.weights C.kind self.now.parts.density)) (λ c. total_of C.kind.group (D.weights C.kind self.now.parts.density) (next (R.meaning self.now.parts.rule) c))) f)) }
-        ensures crossings { FrontMeans C.kind (judge_crossings C.kind C.equality (length crossings.old) (length ring.old) (R.meaning self.now.parts.rule) (D.weights C.kind self.now.parts.density)) crossings.old crossings.new }
-        ensures ring { ring.new ≡ front (ring_written (judge_found C.kind C.equality (length crossings.old) (length ring.old) (R.meaning self.now.parts.rule) (D.weights C.kind self.now.parts.density))) ring.old }
+        ensures answer { found_said C.kind result ≡ and_then (judge_found C.kind (length crossings.old) (length ring.old) (R.meaning self.now.parts.rule) (D.weights C.kind self.now.parts.density)) (λ f. Ok (option_map (broken (total_of C.kind.group (D.weights C.kind self.now.parts.density)) (λ c. total_of C.kind.group (D.weights C.kind self.now.parts.density) (next (R.meaning self.now.parts.rule) c))) f)) }
+        ensures crossings { FrontMeans C.kind (judge_crossings C.kind (length crossings.old) (length ring.old) (R.meaning self.now.parts.rule) (D.weights C.kind self.now.parts.density)) crossings.old crossings.new }
+        ensures ring { ring.new ≡ front (ring_written (judge_found C.kind (length crossings.old) (length ring.old) (R.meaning self.now.parts.rule) (D.weights C.kind self.now.parts.density))) ring.old }
     {
         let Some(Failure { word, len }) = self.judge_words(crossings, ring)? else {
             return Ok(None);
@@ -109,12 +109,12 @@ impl<C: Charge, R: Rule, D: Density<C>> Draft<C, R, D> {
         crossings: &mut [C],
         ring: &mut [u8],
     ) -> Result<Verdict<C, R, D>, Refused<Draft<C, R, D>>>
-        ensures answer { judge_said C.kind result ≡ judging C.kind C.equality (length crossings.old) (length ring.old) (R.meaning self.parts.rule) (D.weights C.kind self.parts.density) }
+        ensures answer { judge_said C.kind result ≡ judging C.kind (length crossings.old) (length ring.old) (R.meaning self.parts.rule) (D.weights C.kind self.parts.density) }
         ensures refused { IfErr result (λ e. refusal e.fault ≡ refused_at ShortStrip 0) }
         ensures parts { MatchResult result (λ verdict. verdict_parts verdict ≡ self.parts) (λ e. e.state ≡ self) }
-        ensures crossings { FrontMeans C.kind (judge_crossings C.kind C.equality (length crossings.old) (length ring.old) (R.meaning self.parts.rule) (D.weights C.kind self.parts.density)) crossings.old crossings.new }
-        ensures ring { ring.new ≡ front (ring_written (judge_found C.kind C.equality (length crossings.old) (length ring.old) (R.meaning self.parts.rule) (D.weights C.kind self.parts.density))) ring.old }
-        ensures right { VerdictRight C.kind (R.meaning self.parts.rule) (D.weights C.kind self.parts.density) (judge_found C.kind C.equality (length crossings.old) (length ring.old) (R.meaning self.parts.rule) (D.weights C.kind self.parts.density)) }
+        ensures crossings { FrontMeans C.kind (judge_crossings C.kind (length crossings.old) (length ring.old) (R.meaning self.parts.rule) (D.weights C.kind self.parts.density)) crossings.old crossings.new }
+        ensures ring { ring.new ≡ front (ring_written (judge_found C.kind (length crossings.old) (length ring.old) (R.meaning self.parts.rule) (D.weights C.kind self.parts.density))) ring.old }
+        ensures right { VerdictRight C.kind (R.meaning self.parts.rule) (D.weights C.kind self.parts.density) (judge_found C.kind (length crossings.old) (length ring.old) (R.meaning self.parts.rule) (D.weights C.kind self.parts.density)) }
         ensures whole { VerdictWhole }
     {
         match self.judge_on(crossings, ring) {

@@ -10,6 +10,8 @@ mod number;
 #[cfg(test)]
 mod reading;
 #[cfg(test)]
+mod text;
+#[cfg(test)]
 mod writing;
 
 #[cfg(test)]

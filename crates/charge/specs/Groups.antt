@@ -21,15 +21,12 @@ abbrev pub sum : (G : Group) → (ℕ → G.Carrier) → ℕ → G.Carrier
 sum G f zero = G.zero
 sum G f (suc n) = G.add (sum G f n) (f n)
 
--- A kind of charge: the group, what each charge means there, and which meanings may be entries of a
--- density. Zero may be one.
+-- A kind of charge: the group, what each charge means there, whether two meanings are the same, and which
+-- meanings may be entries of a density. Zero may be one.
 pub record Kind (C : Type 0) : Type 1 where
   pub group : Group
   pub means : C → group.Carrier
+  pub same : group.Carrier → group.Carrier → Bool
+  pub decides : (x y : group.Carrier) → Decides (same x y) (x ≡ y)
   pub entry : group.Carrier → Bool
   pub zero_enters : entry group.zero ≡ true
-
--- Whether two elements of a group are equal, as a test.
-pub record Equality (G : Group) : Type 0 where
-  pub same : G.Carrier → G.Carrier → Bool
-  pub decides : (x y : G.Carrier) → Decides (same x y) (x ≡ y)

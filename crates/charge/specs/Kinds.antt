@@ -2,7 +2,7 @@
 use Rattle.std.specs.Prelude.{ℕ, ◌%◌, ◌^◌, true, ◌&&◌, ℤ, pos, unsigned_abs, refl}
 use Rattle.std.proofs.Common.{lit<, pow_pos, of_z, to_z}
 use Rattle.std.specs.Int.{int_rem_euclid, w64}
-use Rattle.charge.specs.Groups.{Group, Kind, Equality}
+use Rattle.charge.specs.Groups.{Group, Kind}
 use Rattle.charge.specs.Ranges.{voices_range, pitch_end, channel_bits}
 use Rattle.charge.specs.Residues.{Below, same_below, decides_below, modular, residue, xors, pairs, same_pair, decides_pair}
 use Rattle.charge.specs.declared.voices.Voices.{Voices}
@@ -33,6 +33,8 @@ abbrev pub voices : Kind Voices
 voices = record {
   group = voice_group;
   means = λ v. voice_means v.count;
+  same = same_below;
+  decides = decides_below;
   entry = λ x. voices_range (signed x);
   zero_enters = refl;
 }
@@ -45,6 +47,8 @@ abbrev pub pitch : Kind Pitch
 pitch = record {
   group = modular pitch_end (lit< tt);
   means = λ p. pitch_means p.class;
+  same = same_below;
+  decides = decides_below;
   entry = λ _. true;
   zero_enters = refl;
 }
@@ -57,6 +61,8 @@ abbrev pub channels : Kind Channels
 channels = record {
   group = xors channel_bits;
   means = λ v. channel_means v.bits;
+  same = same_below;
+  decides = decides_below;
   entry = λ _. true;
   zero_enters = refl;
 }
@@ -66,22 +72,8 @@ abbrev pub both : Kind Both
 both = record {
   group = pairs voices.group pitch.group;
   means = λ b. (voices.means b.voices, pitch.means b.pitch);
+  same = same_pair voices.same pitch.same;
+  decides = decides_pair voices.same pitch.same voices.decides pitch.decides;
   entry = λ x. voices.entry x.0 && pitch.entry x.1;
   zero_enters = refl;
-}
-
--- residues are told apart by their numbers, and pairs by their parts
-abbrev pub voices_equality : Equality voices.group
-voices_equality = record { same = same_below; decides = decides_below }
-
-abbrev pub pitch_equality : Equality pitch.group
-pitch_equality = record { same = same_below; decides = decides_below }
-
-abbrev pub channels_equality : Equality channels.group
-channels_equality = record { same = same_below; decides = decides_below }
-
-abbrev pub both_equality : Equality both.group
-both_equality = record {
-  same = same_pair voices_equality.same pitch_equality.same;
-  decides = decides_pair voices_equality.same pitch_equality.same voices_equality.decides pitch_equality.decides;
 }

@@ -1,5 +1,5 @@
 // Charges of kind both: a voices charge and a pitch charge.
-ghost use Rattle.charge.specs.Kinds.{both, both_equality};
+ghost use Rattle.charge.specs.Kinds.{both};
 
 use crate::Charge;
 use crate::pitch::Pitch;
@@ -14,8 +14,6 @@ pub struct Both {
 
 impl Charge for Both {
     ghost kind = { both };
-
-    ghost equality = { both_equality };
 
     fn zero() -> Both {
         Both {

@@ -1,6 +1,6 @@
 // Charges of kind channels: sixteen bits, added by exclusive or.
 ghost use Rattle.std.specs.Prelude.{◌≡◌, Decides, bit_xor};
-ghost use Rattle.charge.specs.Kinds.{channels, channels_equality};
+ghost use Rattle.charge.specs.Kinds.{channels};
 
 use crate::Charge;
 
@@ -28,8 +28,6 @@ fn equal_sets(a: u16, b: u16) -> bool
 
 impl Charge for Channels {
     ghost kind = { channels };
-
-    ghost equality = { channels_equality };
 
     fn zero() -> Channels {
         Channels { bits: 0 }

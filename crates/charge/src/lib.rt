@@ -2,7 +2,7 @@
 #![tactic(auto)]
 
 ghost use Rattle.std.specs.Prelude.{◌≡◌, Decides};
-ghost use Rattle.charge.specs.Groups.{Kind, Equality, minus};
+ghost use Rattle.charge.specs.Groups.{Kind, minus};
 
 mod both;
 mod channels;
@@ -20,9 +20,6 @@ pub use voices::{LEAST_VOICES, MOST_VOICES, Voices};
 // group with its laws, so an impl proves them, and code above is proved from them alone.
 pub trait Charge: Copy {
     ghost kind: { Kind Self };
-
-    // The test of whether two meanings are equal, for definitions that go by cases on it.
-    ghost equality: { Equality kind.group };
 
     fn zero() -> Self
         ensures { kind.means result ≡ kind.group.zero };

@@ -1,6 +1,6 @@
 // Charges of kind voices: whole numbers modulo 2^64, read as signed numbers.
 ghost use Rattle.std.specs.Prelude.{◌≡◌, ◌+◌, ◌-◌, ◌^◌, Decides};
-ghost use Rattle.charge.specs.Kinds.{bits, wrapped, voices, voices_equality};
+ghost use Rattle.charge.specs.Kinds.{bits, wrapped, voices};
 
 use crate::Charge;
 
@@ -37,8 +37,6 @@ fn equal_counts(a: i64, b: i64) -> bool
 
 impl Charge for Voices {
     ghost kind = { voices };
-
-    ghost equality = { voices_equality };
 
     fn zero() -> Voices {
         Voices { count: 0 }

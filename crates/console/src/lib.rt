@@ -28,6 +28,3 @@ pub use part::Part;
 pub use reader::parse;
 pub use show::show_preset;
 pub use writer::page;
-
-#[cfg(test)]
-mod tests;

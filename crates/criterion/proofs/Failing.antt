@@ -1,6 +1,6 @@
 -- The first number that passes a test, and whether a word fails. Assumes nothing.
 use Rattle.std.proofs.Common.{◌≡◌, ℕ, suc, ◌+◌, ◌-◌, ◌*◌, ◌/◌, ◌%◌, ◌^◌, ◌<◌, ◌≤◌, Bool, true, false, cond, not, List, [], ◌∷◌, map, length, get_or, take, drop, Some, None, Decides, Option, sym, refl, ap, ◌∙◌, subst, ap₂, mod-lt, div-lt_iff_lt-mul, add-one, arith, take_at}
-use Rattle.charge.specs.Groups.{Kind, Equality, minus}
+use Rattle.charge.specs.Groups.{Kind, minus}
 use Rattle.automaton.specs.Words.{word, table}
 use Rattle.automaton.specs.Meanings.{Weights, Weighed, weight}
 use Rattle.automaton.proofs.Codes.{length-word, drop-word, code-word}
@@ -49,14 +49,14 @@ module _ {C : Type 0} (K : Kind C) (d : Weights K.group.Carrier) (weighed : Weig
       ∙ drop-word d.q (some-letters d weighed) (d.k - 1) c
 
   -- the test of what stands in a strip of crossings is the test of the word
-  pub fails-at : (E : Equality K.group) (strip : List C) (head : ℕ) (front back crosses : C) (same : Bool) →
+  pub fails-at : (strip : List C) (head : ℕ) (front back crosses : C) (same : Bool) →
       map K.means strip ≡ crossings K 0 d →
       c / d.q ≡ head → head < length strip →
       front ≡ get_or strip head front → back ≡ get_or strip (c % length strip) back →
       K.means crosses ≡ minus K.group (K.means front) (K.means back) →
       Decides same (get_or d.charges c K.group.zero ≡ K.means crosses) →
-      not same ≡ fails K E 0 d (word d.q d.k c)
-  fails-at E strip head front back crosses same filled is-head below at_front at_back crosses-is same-is =
+      not same ≡ fails K 0 d (word d.q d.k c)
+  fails-at strip head front back crosses same filled is-head below at_front at_back crosses-is same-is =
       let heads = length strip in
       let count : heads ≡ d.q ^ (d.k - 1) = filled-count K d strip filled in
       let G = K.group in
@@ -79,34 +79,34 @@ module _ {C : Type 0} (K : Kind C) (d : Weights K.group.Carrier) (weighed : Weig
       let both : K.means crosses ≡ minus G (J K 0 d (take (d.k - 1) w)) (J K 0 d (drop 1 w)) = crosses-is ∙ ap₂ (minus G) first last in
       ap not (decides-same same _
       (subst (λ y. Decides same (weight G d w ≡ y)) both (subst (λ x. Decides same (x ≡ K.means crosses)) of_word same-is))
-      (E.decides (weight G d w) (minus G (J K 0 d (take (d.k - 1) w)) (J K 0 d (drop 1 w)))))
+      (K.decides (weight G d w) (minus G (J K 0 d (take (d.k - 1) w)) (J K 0 d (drop 1 w)))))
 
 -- the search from code i on
-abbrev pub failing_from : {C : Type 0} → (K : Kind C) → Equality K.group → Weights K.group.Carrier → ℕ → Option ℕ
-failing_from K E d i = first_below (λ c. fails K E 0 d (word d.q d.k c)) (d.q ^ d.k) i
+abbrev pub failing_from : {C : Type 0} → (K : Kind C) → Weights K.group.Carrier → ℕ → Option ℕ
+failing_from K d i = first_below (λ c. fails K 0 d (word d.q d.k c)) (d.q ^ d.k) i
 
 -- one word of the search, whose test answers b
-module _ {C : Type 0} (K : Kind C) (E : Equality K.group) (d : Weights K.group.Carrier) (weighed : Weighed d) (heads q head last c : ℕ) (b : Bool)
+module _ {C : Type 0} (K : Kind C) (d : Weights K.group.Carrier) (weighed : Weighed d) (heads q head last c : ℕ) (b : Bool)
     (count : heads ≡ d.q ^ (d.k - 1)) (same-q : q ≡ d.q) (is : c ≡ head * q + last) (below : c < heads * q)
-    (so_far : failing K E 0 d ≡ failing_from K E d (head * d.q + last)) (tested : b ≡ fails K E 0 d (word d.q d.k c)) where
+    (so_far : failing K 0 d ≡ failing_from K d (head * d.q + last)) (tested : b ≡ fails K 0 d (word d.q d.k c)) where
   here : head * d.q + last ≡ c
   here = sym (is ∙ ap (λ t. head * t + last) same-q)
 
-  pub search_more : b ≡ false → failing K E 0 d ≡ failing_from K E d (head * d.q + (last + 1))
+  pub search_more : b ≡ false → failing K 0 d ≡ failing_from K d (head * d.q + (last + 1))
   search_more h =
       so_far
-      ∙ ap (failing_from K E d) here
-      ∙ first_more (λ t. fails K E 0 d (word d.q d.k t)) (d.q ^ d.k) c (code-within d weighed c heads q count same-q below) (sym tested ∙ h)
-      ∙ ap (failing_from K E d) (omega (arith, here))
+      ∙ ap (failing_from K d) here
+      ∙ first_more (λ t. fails K 0 d (word d.q d.k t)) (d.q ^ d.k) c (code-within d weighed c heads q count same-q below) (sym tested ∙ h)
+      ∙ ap (failing_from K d) (omega (arith, here))
 
-  pub search-stop : b ≡ true → Some c ≡ failing K E 0 d
+  pub search-stop : b ≡ true → Some c ≡ failing K 0 d
   search-stop h = sym
       (so_far
-      ∙ ap (failing_from K E d) here
-      ∙ first-stop (λ t. fails K E 0 d (word d.q d.k t)) (d.q ^ d.k) c (code-within d weighed c heads q count same-q below) (sym tested ∙ h))
+      ∙ ap (failing_from K d) here
+      ∙ first-stop (λ t. fails K 0 d (word d.q d.k t)) (d.q ^ d.k) c (code-within d weighed c heads q count same-q below) (sym tested ∙ h))
 
 -- all words are searched
-pub search_end : {C : Type 0} (K : Kind C) (E : Equality K.group) (d : Weights K.group.Carrier) (weighed : Weighed d) (head : ℕ) → d.q ^ (d.k - 1) ≤ head →
-    failing K E 0 d ≡ failing_from K E d (head * d.q) → None ≡ failing K E 0 d
-search_end K E d weighed head past so_far =
-    sym (so_far ∙ first_none (λ t. fails K E 0 d (word d.q d.k t)) (d.q ^ d.k) (head * d.q) (heads-past d weighed head past))
+pub search_end : {C : Type 0} (K : Kind C) (d : Weights K.group.Carrier) (weighed : Weighed d) (head : ℕ) → d.q ^ (d.k - 1) ≤ head →
+    failing K 0 d ≡ failing_from K d (head * d.q) → None ≡ failing K 0 d
+search_end K d weighed head past so_far =
+    sym (so_far ∙ first_none (λ t. fails K 0 d (word d.q d.k t)) (d.q ^ d.k) (head * d.q) (heads-past d weighed head past))

@@ -2,7 +2,7 @@
 use Rattle.std.proofs.Common.{◌≡◌, ℕ, zero, suc, ◌+◌, ◌-◌, ◌^◌, ◌<◌, Bool, true, false, cond, not, List, take, drop, Some, None, Option, sym, refl, ap, ◌∙◌, subst, add-zero, arith}
 use Rattle.std.proofs.lemmas.Bool.{true≢false, not-false, cond_both}
 use Rattle.std.specs.Option.{option_map}
-use Rattle.charge.specs.Groups.{Kind, Equality, minus}
+use Rattle.charge.specs.Groups.{Kind, minus}
 use Rattle.automaton.specs.Words.{Word, word}
 use Rattle.automaton.specs.Meanings.{Weights, Weighed, weight}
 use Rattle.automaton.proofs.Codes.{word-word, every-word}
@@ -40,7 +40,7 @@ module _ (test : ℕ → Bool) where
       go true is e after = let same : i ≡ c = grind arith in ap test (sym same) ∙ is
       go false is e after = after e
 
-module _ {C : Type 0} (K : Kind C) (E : Equality K.group) (z : ℕ) (d : Weights K.group.Carrier) (weighed : Weighed d) (some : z < d.q) where
+module _ {C : Type 0} (K : Kind C) (z : ℕ) (d : Weights K.group.Carrier) (weighed : Weighed d) (some : z < d.q) where
   abbrev label : List ℕ → K.group.Carrier
   label = weight K.group d
 
@@ -50,35 +50,35 @@ module _ {C : Type 0} (K : Kind C) (E : Equality K.group) (z : ℕ) (d : Weights
   abbrev Even : List ℕ → Type 0
   Even w = Balanced K.group label r (J K z d) w
 
-  even_from : (w : List ℕ) → fails K E z d w ≡ false → Even w
-  even_from w e = (E.decides (label w) (minus K.group (J K z d (take r w)) (J K z d (drop 1 w)))).0 (not-false _ e)
+  even_from : (w : List ℕ) → fails K z d w ≡ false → Even w
+  even_from w e = (K.decides (label w) (minus K.group (J K z d (take r w)) (J K z d (drop 1 w)))).0 (not-false _ e)
 
-  from_even : (w : List ℕ) → Even w → fails K E z d w ≡ false
-  from_even w even = ap not ((E.decides (label w) (minus K.group (J K z d (take r w)) (J K z d (drop 1 w)))).1 even)
+  from_even : (w : List ℕ) → Even w → fails K z d w ≡ false
+  from_even w even = ap not ((K.decides (label w) (minus K.group (J K z d (take r w)) (J K z d (drop 1 w)))).1 even)
 
   abbrev test : ℕ → Bool
-  test c = fails K E z d (word d.q d.k c)
+  test c = fails K z d (word d.q d.k c)
 
   -- a word by its code, with the ring that shows it
   abbrev found : ℕ → ℕ × List ℕ
-  found c = (c, shown K E z d (word d.q d.k c))
+  found c = (c, shown K z d (word d.q d.k c))
 
   -- no word fails
-  holds : failing K E z d ≡ None → Holds K.group label z d.q r
+  holds : failing K z d ≡ None → Holds K.group label z d.q r
   holds e w is =
       (every-word d.q (some-letters d weighed) Even d.k).0
       (λ c h. even_from (word d.q d.k c) (ap test (omega arith) ∙ first_none test 0 (d.q ^ d.k) e c h))
       w (is.0 ∙ one_more d weighed, is.1)
 
-  holds_none : Holds K.group label z d.q r → failing K E z d ≡ None
+  holds_none : Holds K.group label z d.q r → failing K z d ≡ None
   holds_none all =
       none_first test 0 (d.q ^ d.k)
       (λ t h. let is = word-word d.q (some-letters d weighed) d.k (0 + t) in
       from_even (word d.q d.k (0 + t)) (all (word d.q d.k (0 + t)) (is.0 ∙ sym (one_more d weighed), is.1)))
 
-  exact : Exact K E z d
+  exact : Exact K z d
   exact = (
-    (λ e. subst (SumsToZero K.group label d.q) (one_more d weighed) ((criterion K.group z label d.q r some).0 (holds (unmapped (failing K E z d) e)))),
+    (λ e. subst (SumsToZero K.group label d.q) (one_more d weighed) ((criterion K.group z label d.q r some).0 (holds (unmapped (failing K z d) e)))),
     (λ sums. ap (option_map found)
         (holds_none ((criterion K.group z label d.q r some).1 (subst (SumsToZero K.group label d.q) (sym (one_more d weighed)) sums)))),
   )
@@ -87,12 +87,12 @@ module _ {C : Type 0} (K : Kind C) (E : Equality K.group) (z : ℕ) (d : Weights
       unmapped None e = refl
       unmapped (Some c) e = absurd (grind arith)
 
-  breaks : (w : List ℕ) → Word d.q (suc r) w → (Even w → ⊥) → BreakingRing K z d (shown K E z d w)
+  breaks : (w : List ℕ) → Word d.q (suc r) w → (Even w → ⊥) → BreakingRing K z d (shown K z d w)
   breaks w is uneven =
       let rings = break_shown K.group z label d.q r w some is uneven in
       let more = one_more d weighed in
-      let decided = E.decides (ring_sum K.group label d.k (ring_a z r w)) K.group.zero in
-      cond_both (sums_to_zero K E d (ring_a z r w)) (ring_b z r w) (ring_a z r w) (BreakingRing K z d)
+      let decided = K.decides (ring_sum K.group label d.k (ring_a z r w)) K.group.zero in
+      cond_both (sums_to_zero K d (ring_a z r w)) (ring_b z r w) (ring_a z r w) (BreakingRing K z d)
       (λ is_zero.
       let B = rings.2 (subst (λ m. ring_sum K.group label m (ring_a z r w) ≡ K.group.zero) (sym more) (decided.0 is_zero)) in (
         omega (arith, B.0, rings.1.0),
@@ -107,7 +107,7 @@ module _ {C : Type 0} (K : Kind C) (E : Equality K.group) (z : ℕ) (d : Weights
         λ e. true≢false (sym (decided.1 e) ∙ not-zero),
       ))
 
-  shows : (o : Option ℕ) → failing K E z d ≡ o → Shows K z d (option_map found o)
+  shows : (o : Option ℕ) → failing K z d ≡ o → Shows K z d (option_map found o)
   shows None e =
       let all = holds e in
       (all, crossing_zero K.group z label d.q r some all, λ T balances nothing v is. crossing_only K.group z label T d.q r some balances nothing v is)
@@ -116,5 +116,5 @@ module _ {C : Type 0} (K : Kind C) (E : Equality K.group) (z : ℕ) (d : Weights
       breaks (word d.q d.k c) (is.0 ∙ sym (one_more d weighed), is.1)
       (λ even. true≢false (sym (first_passes test 0 (d.q ^ d.k) c e) ∙ from_even (word d.q d.k c) even))
 
-  pub label_law : LabelLaw K E z d
-  label_law = (exact, shows (failing K E z d) refl)
+  pub label_law : LabelLaw K z d
+  label_law = (exact, shows (failing K z d) refl)

@@ -4,7 +4,7 @@ use lib.Seq.{take-append-add}
 use Rattle.std.proofs.lemmas.List.{drop-replicate, take-replicate, take_rest}
 use Rattle.fault.specs.Answers.{and_then, front}
 use Rattle.fault.specs.Refusals.{Refusal}
-use Rattle.charge.specs.Groups.{Kind, Equality}
+use Rattle.charge.specs.Groups.{Kind}
 use Rattle.automaton.specs.Words.{Letters, word, repeated}
 use Rattle.automaton.specs.Meanings.{Weights, Weighed, weight, total}
 use Rattle.automaton.specs.Making.{ring_checked}
@@ -32,14 +32,14 @@ module _ {C : Type 0} (K : Kind C) (d : Weights K.group.Carrier) where
     pub not-refused : (f : Refusal) → Err f ≡ answer → ⊥
     not-refused f e = let clash : Err f ≡ Ok (ring_sum K.group (weight K.group d) d.k ring) = e ∙ total-is in grind arith
 
-    pub zero-tested : (E : Equality K.group) (sum nothing : C) (same : Bool) → Ok (K.means sum) ≡ answer → K.means nothing ≡ K.group.zero →
-        Decides same (K.means sum ≡ K.means nothing) → same ≡ sums_to_zero K E d ring
-    zero-tested E sum nothing same e is_zero tested =
+    pub zero-tested : (sum nothing : C) (same : Bool) → Ok (K.means sum) ≡ answer → K.means nothing ≡ K.group.zero →
+        Decides same (K.means sum ≡ K.means nothing) → same ≡ sums_to_zero K d ring
+    zero-tested sum nothing same e is_zero tested =
         let sum_is : K.means sum ≡ ring_sum K.group (weight K.group d) d.k ring = grind (arith, e, total-is) in
         decides-same same _
         (subst (λ y. Decides same (ring_sum K.group (weight K.group d) d.k ring ≡ y)) is_zero
         (subst (λ x. Decides same (x ≡ K.means nothing)) sum_is tested))
-        (E.decides (ring_sum K.group (weight K.group d) d.k ring) K.group.zero)
+        (K.decides (ring_sum K.group (weight K.group d) d.k ring) K.group.zero)
 
 -- the word of code c at the front of 23 zeros, cut to the length of ring A
 module _ {C : Type 0} (K : Kind C) (d : Weights K.group.Carrier) (weighed : Weighed d) (c q m : ℕ) (cells : List ℕ)
@@ -68,13 +68,13 @@ module _ {C : Type 0} (K : Kind C) (d : Weights K.group.Carrier) (weighed : Weig
       ((omega arith, omega (arith, weighed.sizes.3)), subst (Letters d.q) (sym is-ring_a) is.1)
 
   -- the ring that is taken, by what ring A sums to
-  module _ (E : Equality K.group) (b : Bool) (tested : ◌≡◌ {A = Result Bool Refusal} (Ok b) (Ok (sums_to_zero K E d cut))) where
-    shown-is : cond b (drop 1 cut) cut ≡ shown K E 0 d (word d.q d.k c)
+  module _ (b : Bool) (tested : ◌≡◌ {A = Result Bool Refusal} (Ok b) (Ok (sums_to_zero K d cut))) where
+    shown-is : cond b (drop 1 cut) cut ≡ shown K 0 d (word d.q d.k c)
     shown-is =
-        let same : b ≡ sums_to_zero K E d cut = grind (arith, tested) in
-        ap₂ (λ t a. cond t (drop 1 a) a) (same ∙ ap (sums_to_zero K E d) is-ring_a) is-ring_a
+        let same : b ≡ sums_to_zero K d cut = grind (arith, tested) in
+        ap₂ (λ t a. cond t (drop 1 a) a) (same ∙ ap (sums_to_zero K d) is-ring_a) is-ring_a
 
-    pub shown-taken : cond b (take (length cut - 1) (drop 1 cut)) cut ≡ shown K E 0 d (word d.q d.k c)
+    pub shown-taken : cond b (take (length cut - 1) (drop 1 cut)) cut ≡ shown K 0 d (word d.q d.k c)
     shown-taken = ap (λ t. cond b t cut) (take_rest cut 1) ∙ shown-is
 
 -- what the copy of a ring says, said of the ring that it is

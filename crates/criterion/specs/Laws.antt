@@ -1,6 +1,6 @@
 -- What the search says of all rings. Assumes nothing.
 use Rattle.std.specs.Prelude.{◌≡◌, ℕ, ◌-◌, ◌*◌, ◌≤◌, ◌↔◌, List, length, Some, None, Option, ◌≢◌}
-use Rattle.charge.specs.Groups.{Kind, Equality}
+use Rattle.charge.specs.Groups.{Kind}
 use Rattle.automaton.specs.Words.{Letters}
 use Rattle.automaton.specs.Meanings.{Weights, weight}
 use Rattle.criterion.specs.Balance.{ring_sum, SumsToZero, OnlyTable}
@@ -21,10 +21,9 @@ module _ {C : Type 0} (K : Kind C) (z : ℕ) (d : Weights K.group.Carrier) where
   Shows None = OnlyCrossings
   Shows (Some f) = BreakingRing f.1
 
-module _ {C : Type 0} (K : Kind C) (E : Equality K.group) (z : ℕ) (d : Weights K.group.Carrier) where
   -- no word fails exactly when the label sums to zero on the rings of every length
   abbrev pub Exact : Type 0
-  Exact = (failure K E z d ≡ None) ↔ SumsToZero K.group (weight K.group d) d.q d.k
+  Exact = (failure K z d ≡ None) ↔ SumsToZero K.group (weight K.group d) d.q d.k
 
   abbrev pub LabelLaw : Type 0
-  LabelLaw = Exact × Shows K z d (failure K E z d)
+  LabelLaw = Exact × Shows (failure K z d)

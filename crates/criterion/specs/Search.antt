@@ -2,8 +2,9 @@
 use Rattle.std.specs.Prelude.{ℕ, zero, suc, ◌-◌, ◌*◌, ◌^◌, Bool, cond, not, ◌&&◌, List, take, drop, Some, None, Ok, Err, Option, Result, nat_le}
 use Rattle.std.specs.Option.{option_map}
 use Rattle.fault.specs.declared.Stop.TheVariants.{ShortStrip}
+use Rattle.fault.specs.Limits.{most_window}
 use Rattle.fault.specs.Refusals.{Refusal, refused_at}
-use Rattle.charge.specs.Groups.{Kind, Equality, minus}
+use Rattle.charge.specs.Groups.{Kind, minus}
 use Rattle.automaton.specs.Words.{word, table}
 use Rattle.automaton.specs.Meanings.{Weights, weight}
 use Rattle.criterion.specs.Balance.{ring_sum, crossing, ring_a, ring_b}
@@ -12,14 +13,18 @@ use Rattle.criterion.specs.Balance.{ring_sum, crossing, ring_a, ring_b}
 abbrev pub padding : ℕ
 padding = 0
 
+-- the most cells of a ring that shows a failing word: the longest word and a letter less of padding
+abbrev pub most_shown : ℕ
+most_shown = 2 * most_window - 1
+
 -- the first of the n numbers from i on that passes a test
 abbrev pub first_of : (ℕ → Bool) → ℕ → ℕ → Option ℕ
 first_of test i zero = None
 first_of test i (suc n) = cond (test i) (Some i) (first_of test (suc i) n)
 
 -- whether the labels of a ring sum to zero
-abbrev pub sums_to_zero : {C : Type 0} → (K : Kind C) → Equality K.group → Weights K.group.Carrier → List ℕ → Bool
-sums_to_zero K E d c = E.same (ring_sum K.group (weight K.group d) d.k c) K.group.zero
+abbrev pub sums_to_zero : {C : Type 0} → (K : Kind C) → Weights K.group.Carrier → List ℕ → Bool
+sums_to_zero K d c = K.same (ring_sum K.group (weight K.group d) d.k c) K.group.zero
 
 -- In these d is a label on words of d.k letters: its alphabet size, that number of letters, and a charge for each word.
 module _ {C : Type 0} (K : Kind C) (z : ℕ) (d : Weights K.group.Carrier) where
@@ -36,11 +41,9 @@ module _ {C : Type 0} (K : Kind C) (z : ℕ) (d : Weights K.group.Carrier) where
   with_room crossing_room ring_room x =
       cond (nat_le (d.q ^ (d.k - 1)) crossing_room && nat_le (2 * d.k - 1) ring_room) (Ok x) (Err (refused_at ShortStrip 0))
 
--- What is found, with the test E of whether two meanings are equal.
-module _ {C : Type 0} (K : Kind C) (E : Equality K.group) (z : ℕ) (d : Weights K.group.Carrier) where
   -- a word fails if its label is not J of its first m - 1 letters less J of its last m - 1 letters
   abbrev pub fails : List ℕ → Bool
-  fails w = not (E.same (weight K.group d w) (minus K.group (J K z d (take (d.k - 1) w)) (J K z d (drop 1 w))))
+  fails w = not (K.same (weight K.group d w) (minus K.group (J (take (d.k - 1) w)) (J (drop 1 w))))
 
   -- the smallest code of a word that fails
   abbrev pub failing : Option ℕ
@@ -48,7 +51,7 @@ module _ {C : Type 0} (K : Kind C) (E : Equality K.group) (z : ℕ) (d : Weights
 
   -- the ring that shows that a word fails: ring A, unless its labels sum to zero, and then ring B
   abbrev pub shown : List ℕ → List ℕ
-  shown w = cond (sums_to_zero K E d (ring_a z (d.k - 1) w)) (ring_b z (d.k - 1) w) (ring_a z (d.k - 1) w)
+  shown w = cond (sums_to_zero K d (ring_a z (d.k - 1) w)) (ring_b z (d.k - 1) w) (ring_a z (d.k - 1) w)
 
   -- the failing word by its code, with the ring that shows it
   abbrev pub failure : Option (ℕ × List ℕ)

@@ -46,7 +46,7 @@ fn labelled<C: Charge, L: Label<C>>(label: &L, code: usize, charge: C) -> bool
 fn fails<C: Charge, L: Label<C>>(label: &L, crossings: &[C], head: usize, code: usize) -> bool
     requires filled { map C.kind.means crossings.now ≡ crossings_of C.kind padding (L.labels C.kind label.now) }
     requires front { (code / (L.labels C.kind label.now).q ≡ head) × (head < length crossings.now) }
-    ensures { result ≡ fails_at C.kind C.equality padding (L.labels C.kind label.now) (word (L.labels C.kind label.now).q (L.labels C.kind label.now).k code) }
+    ensures { result ≡ fails_at C.kind padding (L.labels C.kind label.now) (word (L.labels C.kind label.now).q (L.labels C.kind label.now).k code) }
 {
     let crosses = difference(crossings[head], crossings[code % crossings.len()]);
     !labelled(label, code, crosses)
@@ -56,7 +56,7 @@ fn fails<C: Charge, L: Label<C>>(label: &L, crossings: &[C], head: usize, code: 
 // would ask the label inside closures.
 fn first_failing<C: Charge, L: Label<C>>(label: &L, crossings: &[C]) -> Option<usize>
     requires { map C.kind.means crossings.now ≡ crossings_of C.kind padding (L.labels C.kind label.now) }
-    ensures { result ≡ failing C.kind C.equality padding (L.labels C.kind label.now) }
+    ensures { result ≡ failing C.kind padding (L.labels C.kind label.now) }
 {
     let q = label.q();
     let heads = crossings.len();
@@ -92,10 +92,10 @@ pub fn examine<C: Charge, L: Label<C>>(
     crossings: &mut [C],
     ring: &mut [u8],
 ) -> Result<Option<Failure>, Fault>
-    ensures answer { seen result ≡ counted (examined C.kind C.equality padding (L.labels C.kind label.now) (length crossings.old) (length ring.old)) }
-    ensures crossings { FrontMeans C.kind (crossings_written C.kind C.equality padding (L.labels C.kind label.now) (length crossings.old) (length ring.old)) crossings.old crossings.new }
-    ensures ring { ring.new ≡ front (ring_written (examined C.kind C.equality padding (L.labels C.kind label.now) (length crossings.old) (length ring.old))) ring.old }
-    ensures law { LabelLaw C.kind C.equality padding (L.labels C.kind label.now) }
+    ensures answer { seen result ≡ counted (examined C.kind padding (L.labels C.kind label.now) (length crossings.old) (length ring.old)) }
+    ensures crossings { FrontMeans C.kind (crossings_written C.kind padding (L.labels C.kind label.now) (length crossings.old) (length ring.old)) crossings.old crossings.new }
+    ensures ring { ring.new ≡ front (ring_written (examined C.kind padding (L.labels C.kind label.now) (length crossings.old) (length ring.old))) ring.old }
+    ensures law { LabelLaw C.kind padding (L.labels C.kind label.now) }
 {
     check_room(label, crossings.len(), ring.len())?;
     let crossings = &mut crossings[..head_count(label)];

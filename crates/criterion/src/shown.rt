@@ -30,7 +30,7 @@ fn write_word(q: usize, code: usize, letters: &mut [u8])
 fn sums_to_zero<C: Charge, L: Label<C>>(label: &L, ring: &[u8]) -> Result<bool, Fault>
     requires length { (1 ≤ length ring.now) × (length ring.now ≤ 4096) }
     requires letters { Letters (L.labels C.kind label.now).q ring.now }
-    ensures { plainly result ≡ Ok (sums_to_zero C.kind C.equality (L.labels C.kind label.now) ring.now) }
+    ensures { plainly result ≡ Ok (sums_to_zero C.kind (L.labels C.kind label.now) ring.now) }
 {
     let sum: C = total(&LabelDensity { label }, ring)?;
     Ok(sum.same(C::zero()))
@@ -61,8 +61,8 @@ pub(crate) fn write_shown<C: Charge, L: Label<C>>(
     strip: &mut [u8],
 ) -> Result<usize, Fault>
     requires { 2 * (L.labels C.kind label.now).k - 1 ≤ length strip.old }
-    ensures answer { plainly result ≡ Ok (length (shown C.kind C.equality padding (L.labels C.kind label.now) (word (L.labels C.kind label.now).q (L.labels C.kind label.now).k code))) }
-    ensures strip { strip.new ≡ front (shown C.kind C.equality padding (L.labels C.kind label.now) (word (L.labels C.kind label.now).q (L.labels C.kind label.now).k code)) strip.old }
+    ensures answer { plainly result ≡ Ok (length (shown C.kind padding (L.labels C.kind label.now) (word (L.labels C.kind label.now).q (L.labels C.kind label.now).k code))) }
+    ensures strip { strip.new ≡ front (shown C.kind padding (L.labels C.kind label.now) (word (L.labels C.kind label.now).q (L.labels C.kind label.now).k code)) strip.old }
 {
     let m = label.m();
     let mut cells = [0u8; MOST_SHOWN];

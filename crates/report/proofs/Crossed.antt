@@ -6,7 +6,7 @@ use Rattle.fault.specs.declared.Fault.{Fault}
 use Rattle.fault.specs.Answers.{and_then}
 use Rattle.fault.specs.Limits.{most_words}
 use Rattle.fault.specs.Refusals.{Refusal}
-use Rattle.charge.specs.Groups.{Kind, Equality}
+use Rattle.charge.specs.Groups.{Kind}
 use Rattle.automaton.specs.Meanings.{Weights, next, total}
 use Rattle.automaton.specs.Tables.{length-table}
 use Rattle.automaton.specs.Words.{word}
@@ -45,16 +45,16 @@ module _ {C : Type 0} (K : Kind C) (label : Weights K.group.Carrier) (first seco
   count-is (Ok f) o e = length-table (label.q ^ (label.k - 1)) (λ v. J K padding label (word label.q (label.k - 1) v))
   count-is (Err f) o e = let z : ◌≡◌ {A = ℕ} 0 1 = sym (answers K o) ∙ ap refuses e in absurd (omega arith)
 
-pub page-told : {C : Type 0} (K : Kind C) (E : Equality K.group) (S : Sending C) (room cells : ℕ) (h : Header) (letters : List ℕ) (charges old new : List C) (strip ring : List ℕ) (o : Option (Break C))
-    → JudgeFinds K (preset_rule h letters) (preset_density K h charges) (preset_found K E room cells h letters charges) old new strip ring (Ok o)
+pub page-told : {C : Type 0} (K : Kind C) (S : Sending C) (room cells : ℕ) (h : Header) (letters : List ℕ) (charges old new : List C) (strip ring : List ℕ) (o : Option (Break C))
+    → JudgeFinds K (preset_rule h letters) (preset_density K h charges) (preset_found K room cells h letters charges) old new strip ring (Ok o)
     → (shape : Shape) → shape ≡ crossing_shape S.named h → (l : Line) → LineIs (rows_text (λ i x. row_text shape i (S.entry x)) 0 (take (shape.q ^ shape.m) new)) (answer_good o) l
-    → ToldCrossings K E S room cells h letters charges (Ok l)
-page-told K E S room cells h letters charges old new strip ring o finds shape same l is =
+    → ToldCrossings K S room cells h letters charges (Ok l)
+page-told K S room cells h letters charges old new strip ring o finds shape same l is =
     let d = preset_density K h charges in
     let r = preset_rule h letters in
     let label = rule_label_list K.group r d in
     let to = crossing_shape S.named h in
-    let found = preset_found K E room cells h letters charges in
+    let found = preset_found K room cells h letters charges in
     let count = count-is K label (total K.group d) (λ c. total K.group d (next r c)) found o finds.said in
     record {
       answer = Ok o;
@@ -69,14 +69,14 @@ page-told K E S room cells h letters charges old new strip ring o finds shape sa
     }
 
 -- what is told where judging is refused
-pub refusal-told : {C : Type 0} (K : Kind C) (E : Equality K.group) (S : Sending C) (room cells : ℕ) (h : Header) (letters : List ℕ) (charges old new : List C) (strip ring : List ℕ) (f : Fault)
-    → JudgeFinds K (preset_rule h letters) (preset_density K h charges) (preset_found K E room cells h letters charges) old new strip ring (Err f)
-    → ToldCrossings K E S room cells h letters charges (Err f)
-refusal-told K E S room cells h letters charges old new strip ring f finds = record {
+pub refusal-told : {C : Type 0} (K : Kind C) (S : Sending C) (room cells : ℕ) (h : Header) (letters : List ℕ) (charges old new : List C) (strip ring : List ℕ) (f : Fault)
+    → JudgeFinds K (preset_rule h letters) (preset_density K h charges) (preset_found K room cells h letters charges) old new strip ring (Err f)
+    → ToldCrossings K S room cells h letters charges (Err f)
+refusal-told K S room cells h letters charges old new strip ring f finds = record {
   answer = Err f;
   said = finds.said;
   right = finds.right;
-  crossed = take (length (unless_refused (preset_found K E room cells h letters charges) (crossings K padding (rule_label_list K.group (preset_rule h letters) (preset_density K h charges))))) new;
+  crossed = take (length (unless_refused (preset_found K room cells h letters charges) (crossings K padding (rule_label_list K.group (preset_rule h letters) (preset_density K h charges))))) new;
   meant = finds.crossed.0;
   page = refl;
 }

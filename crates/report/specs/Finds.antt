@@ -4,7 +4,7 @@ use Rattle.std.specs.Option.{option_map}
 use Rattle.fault.specs.declared.Fault.{Fault}
 use Rattle.fault.specs.Answers.{and_then, front}
 use Rattle.fault.specs.Refusals.{Refusal}
-use Rattle.charge.specs.Groups.{Kind, Equality}
+use Rattle.charge.specs.Groups.{Kind}
 use Rattle.automaton.specs.Making.{table_rule, table_density, rule_making, table_making, done}
 use Rattle.automaton.specs.Meanings.{Local, Weights, next, total}
 use Rattle.criterion.specs.Answers.{ring_written, unless_refused}
@@ -42,20 +42,20 @@ preset_rule h letters = table_rule h.q h.n h.l letters
 abbrev pub preset_density : {C : Type 0} → (K : Kind C) → Header → List C → Weights K.group.Carrier
 preset_density K h charges = table_density K h.q h.k charges
 
-module _ {C : Type 0} (K : Kind C) (E : Equality K.group) (crossing_room ring_room : ℕ) where
+module _ {C : Type 0} (K : Kind C) (crossing_room ring_room : ℕ) where
   -- what judging finds, once the rule and the density are made
   abbrev pub preset_found : Header → List ℕ → List C → Result (Option (ℕ × List ℕ)) Refusal
   preset_found h letters charges =
       and_then (done (rule_making h.q h.n h.l (h.q ^ h.n) letters)) (λ _.
       and_then (done (table_making K h.q h.k charges)) (λ _.
-      judge_found K E crossing_room ring_room (preset_rule h letters) (preset_density K h charges)))
+      judge_found K crossing_room ring_room (preset_rule h letters) (preset_density K h charges)))
 
   -- what comparing finds, once the two densities are made
   abbrev pub pair_found : Header → List C → Header → List C → Result (Option (ℕ × List ℕ)) Refusal
   pair_found h charges h' charges' =
       and_then (done (table_making K h.q h.k charges)) (λ _.
       and_then (done (table_making K h'.q h'.k charges')) (λ _.
-      compare_found K E crossing_room ring_room (preset_density K h charges) (preset_density K h' charges')))
+      compare_found K crossing_room ring_room (preset_density K h charges) (preset_density K h' charges')))
 
 -- a break with its totals as entries, and what was found likewise
 abbrev pub sent_break : {C : Type 0} → Sending C → Break C → Break Entry

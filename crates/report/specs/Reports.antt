@@ -3,15 +3,16 @@ use Rattle.std.specs.Prelude.{◌≡◌, ℕ, ◌+◌, ◌-◌, max, Bool, true,
 use Rattle.std.specs.Option.{option_map}
 use Rattle.fault.specs.declared.Fault.{Fault}
 use Rattle.fault.specs.Answers.{and_then, plainly}
+use Rattle.fault.specs.Limits.{most_words}
 use Rattle.fault.specs.Refusals.{Refusal}
-use Rattle.charge.specs.Groups.{Kind, Equality}
+use Rattle.charge.specs.Groups.{Kind}
 use Rattle.charge.specs.Numbers.{number_of}
-use Rattle.charge.specs.Kinds.{voices, pitch, channels, both, voices_equality, pitch_equality, channels_equality, both_equality}
+use Rattle.charge.specs.Kinds.{voices, pitch, channels, both}
 use Rattle.charge.specs.declared.kind.ChargeKind.{ChargeKind}
 use Rattle.charge.specs.declared.kind.ChargeKind.TheVariants.{Voices, Pitch, Channels, Both}
 use Rattle.automaton.specs.Meanings.{next, total}
 use Rattle.criterion.specs.Answers.{ring_written, unless_refused}
-use Rattle.criterion.specs.Search.{padding, crossings}
+use Rattle.criterion.specs.Search.{padding, most_shown, crossings}
 use Rattle.preset.specs.Presets.{Preset}
 use Rattle.preset.specs.Sending.{Sending, voices_sending, pitch_sending, channels_sending, both_sending}
 use Rattle.preset.specs.declared.entry.Entry.{Entry}
@@ -30,10 +31,10 @@ use Rattle.report.specs.Texts.{Shape, kinds_text, two_names, refused_text, verdi
 
 -- how many crossings and cells the strips have room for
 abbrev pub crossing_room : ℕ
-crossing_room = 4096
+crossing_room = most_words
 
 abbrev pub ring_room : ℕ
-ring_room = 23
+ring_room = most_shown
 
 -- the words that a preset's label is on, and those that two densities' label is on
 abbrev pub judge_shape : ChargeKind → Header → Shape
@@ -52,26 +53,26 @@ pub record VerdictLine {C : Type 0} (K : Kind C) (S : Sending C) (question : Que
   pub line : LineIs (verdict_text question subject shape (ring_written found) (sent_found S answer)) (verdict_good (sent_found S answer)) l
 
 -- the line of a preset with its charges, judged on strips of some lengths
-abbrev pub ToldJudgement : {C : Type 0} (K : Kind C) → Equality K.group → Sending C → ℕ → ℕ → List ℕ → Header → List ℕ → List C → Line → Type 0
-ToldJudgement K E S room cells name h letters charges =
+abbrev pub ToldJudgement : {C : Type 0} (K : Kind C) → Sending C → ℕ → ℕ → List ℕ → Header → List ℕ → List C → Line → Type 0
+ToldJudgement K S room cells name h letters charges =
     VerdictLine K S Judge name (judge_shape S.named h)
     (total K.group (preset_density K h charges))
     (λ c. total K.group (preset_density K h charges) (next (preset_rule h letters) c))
     (VerdictRight K (preset_rule h letters) (preset_density K h charges))
-    (preset_found K E room cells h letters charges)
+    (preset_found K room cells h letters charges)
 
 -- the line of a preset of one kind: some charges that are sent as its entries are judged
-pub record JudgeLine {C : Type 0} (K : Kind C) (E : Equality K.group) (S : Sending C) (name : List ℕ) (h : Header) (letters : List ℕ) (entries : List Entry) (l : Line) : Type 0 where
+pub record JudgeLine {C : Type 0} (K : Kind C) (S : Sending C) (name : List ℕ) (h : Header) (letters : List ℕ) (entries : List Entry) (l : Line) : Type 0 where
   pub charges : List C
   pub sent : map S.entry charges ≡ entries
-  pub verdict : ToldJudgement K E S crossing_room ring_room name h letters charges l
+  pub verdict : ToldJudgement K S crossing_room ring_room name h letters charges l
 
 -- of any kind
 abbrev pub JudgedAs : ChargeKind → List ℕ → Header → List ℕ → List Entry → Line → Type 0
-JudgedAs Voices = JudgeLine voices voices_equality voices_sending
-JudgedAs Pitch = JudgeLine pitch pitch_equality pitch_sending
-JudgedAs Channels = JudgeLine channels channels_equality channels_sending
-JudgedAs Both = JudgeLine both both_equality both_sending
+JudgedAs Voices = JudgeLine voices voices_sending
+JudgedAs Pitch = JudgeLine pitch pitch_sending
+JudgedAs Channels = JudgeLine channels channels_sending
+JudgedAs Both = JudgeLine both both_sending
 
 -- the line of some bytes under a name, by what reading them as a preset answers
 abbrev pub JudgeTells : List ℕ → Result Preset Refusal → Line → Type 0
@@ -79,28 +80,28 @@ JudgeTells name (Ok p) = JudgedAs p.head.kind name p.head.header p.letters p.ent
 JudgeTells name (Err f) = LineIs (refused_text name f) false
 
 -- the line of two densities with their charges, compared on strips of some lengths
-abbrev pub ToldComparison : {C : Type 0} (K : Kind C) → Equality K.group → Sending C → ℕ → ℕ → List ℕ → Header → List C → Header → List C → Line → Type 0
-ToldComparison K E S room cells subject h charges h' others =
+abbrev pub ToldComparison : {C : Type 0} (K : Kind C) → Sending C → ℕ → ℕ → List ℕ → Header → List C → Header → List C → Line → Type 0
+ToldComparison K S room cells subject h charges h' others =
     VerdictLine K S Compare subject (compare_shape S.named h h')
     (total K.group (preset_density K h charges))
     (total K.group (preset_density K h' others))
     (ComparisonRight K (preset_density K h charges) (preset_density K h' others))
-    (pair_found K E room cells h charges h' others)
+    (pair_found K room cells h charges h' others)
 
 -- the line of the densities of two presets of one kind
-pub record CompareLine {C : Type 0} (K : Kind C) (E : Equality K.group) (S : Sending C) (subject : List ℕ) (h : Header) (entries : List Entry) (h' : Header) (entries' : List Entry) (l : Line) : Type 0 where
+pub record CompareLine {C : Type 0} (K : Kind C) (S : Sending C) (subject : List ℕ) (h : Header) (entries : List Entry) (h' : Header) (entries' : List Entry) (l : Line) : Type 0 where
   pub charges : List C
   pub others : List C
   pub sent : map S.entry charges ≡ entries
   pub others_sent : map S.entry others ≡ entries'
-  pub verdict : ToldComparison K E S crossing_room ring_room subject h charges h' others l
+  pub verdict : ToldComparison K S crossing_room ring_room subject h charges h' others l
 
 -- of two presets whose kinds are the same or not
 abbrev pub ComparedAs : Bool → ChargeKind → List ℕ → Header → List Entry → Header → List Entry → Line → Type 0
-ComparedAs true Voices = CompareLine voices voices_equality voices_sending
-ComparedAs true Pitch = CompareLine pitch pitch_equality pitch_sending
-ComparedAs true Channels = CompareLine channels channels_equality channels_sending
-ComparedAs true Both = CompareLine both both_equality both_sending
+ComparedAs true Voices = CompareLine voices voices_sending
+ComparedAs true Pitch = CompareLine pitch pitch_sending
+ComparedAs true Channels = CompareLine channels channels_sending
+ComparedAs true Both = CompareLine both both_sending
 ComparedAs false kind = λ subject h entries h' entries'. LineIs (kinds_text subject) false
 
 -- whether two kinds are the same
@@ -125,26 +126,26 @@ PageIs S shape crossed (Err f) (Ok l) = ⊥
 PageIs S shape crossed (Err f) (Err g) = f ≡ g
 
 -- The page of a preset with its charges, judged on strips of some lengths: charges that mean its crossings, a row each.
-pub record ToldCrossings {C : Type 0} (K : Kind C) (E : Equality K.group) (S : Sending C) (room cells : ℕ) (h : Header) (letters : List ℕ) (charges : List C) (r : Result Line Fault) : Type 0 where
+pub record ToldCrossings {C : Type 0} (K : Kind C) (S : Sending C) (room cells : ℕ) (h : Header) (letters : List ℕ) (charges : List C) (r : Result Line Fault) : Type 0 where
   pub answer : Result (Option (Break C)) Fault
-  pub said : found_said K answer ≡ and_then (preset_found K E room cells h letters charges) (λ f. Ok (option_map (broken (total K.group (preset_density K h charges)) (λ c. total K.group (preset_density K h charges) (next (preset_rule h letters) c))) f))
-  pub right : VerdictRight K (preset_rule h letters) (preset_density K h charges) (preset_found K E room cells h letters charges)
+  pub said : found_said K answer ≡ and_then (preset_found K room cells h letters charges) (λ f. Ok (option_map (broken (total K.group (preset_density K h charges)) (λ c. total K.group (preset_density K h charges) (next (preset_rule h letters) c))) f))
+  pub right : VerdictRight K (preset_rule h letters) (preset_density K h charges) (preset_found K room cells h letters charges)
   pub crossed : List C
-  pub meant : map K.means crossed ≡ unless_refused (preset_found K E room cells h letters charges) (crossings K padding (rule_label_list K.group (preset_rule h letters) (preset_density K h charges)))
+  pub meant : map K.means crossed ≡ unless_refused (preset_found K room cells h letters charges) (crossings K padding (rule_label_list K.group (preset_rule h letters) (preset_density K h charges)))
   pub page : PageIs S (crossing_shape S.named h) crossed answer r
 
 -- the page of a preset of one kind: some charges that are sent as its entries are judged
-pub record CrossingsPage {C : Type 0} (K : Kind C) (E : Equality K.group) (S : Sending C) (h : Header) (letters : List ℕ) (entries : List Entry) (r : Result Line Fault) : Type 0 where
+pub record CrossingsPage {C : Type 0} (K : Kind C) (S : Sending C) (h : Header) (letters : List ℕ) (entries : List Entry) (r : Result Line Fault) : Type 0 where
   pub charges : List C
   pub sent : map S.entry charges ≡ entries
-  pub told : ToldCrossings K E S crossing_room ring_room h letters charges r
+  pub told : ToldCrossings K S crossing_room ring_room h letters charges r
 
 -- of any kind
 abbrev pub CrossedAs : ChargeKind → Header → List ℕ → List Entry → Result Line Fault → Type 0
-CrossedAs Voices = CrossingsPage voices voices_equality voices_sending
-CrossedAs Pitch = CrossingsPage pitch pitch_equality pitch_sending
-CrossedAs Channels = CrossingsPage channels channels_equality channels_sending
-CrossedAs Both = CrossingsPage both both_equality both_sending
+CrossedAs Voices = CrossingsPage voices voices_sending
+CrossedAs Pitch = CrossingsPage pitch pitch_sending
+CrossedAs Channels = CrossingsPage channels channels_sending
+CrossedAs Both = CrossingsPage both both_sending
 
 -- the page of some bytes, by what reading them as a preset answers
 abbrev pub CrossingsTell : Result Preset Refusal → Result Line Fault → Type 0

@@ -17,7 +17,7 @@ pub(crate) fn compare_tables<C: Charge>(
     crossings: &mut [C],
     ring: &mut [u8],
 ) -> Result<Option<Break<C>>, Fault>
-    ensures { CompareFinds C.kind (preset_density C.kind first charges.now) (preset_density C.kind second others.now) (pair_found C.kind C.equality (length crossings.old) (length ring.old) first charges.now second others.now) crossings.old crossings.new ring.old ring.new result }
+    ensures { CompareFinds C.kind (preset_density C.kind first charges.now) (preset_density C.kind second others.now) (pair_found C.kind (length crossings.old) (length ring.old) first charges.now second others.now) crossings.old crossings.new ring.old ring.new result }
 {
     let mut density = TableDensity::zero();
     density.fill(first.q, first.k, charges)?;

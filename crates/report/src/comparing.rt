@@ -35,7 +35,7 @@ fn compare_charges<C: Sent>(
 ) -> Result<Line, AllocError>
     requires first { first.kind ≡ C.sending.named }
     requires second { second.kind ≡ C.sending.named }
-    ensures { IfOk result (CompareLine C.kind C.equality C.sending subject.now first.entry.header first.entry.entries.now second.entry.header second.entry.entries.now) }
+    ensures { IfOk result (CompareLine C.kind C.sending subject.now first.entry.header first.entry.entries.now second.entry.header second.entry.entries.now) }
 {
     let charges = charges_of::<C>(alloc, first.entries)?;
     let others = charges_of::<C>(alloc, second.entries)?;

@@ -48,7 +48,7 @@ fn page_line<C: Sent>(
 // The page of a preset of one kind.
 fn cross_charges<C: Sent>(alloc: Global, preset: Loaded<'_>) -> Result<Line, ShowError>
     requires { preset.kind ≡ C.sending.named }
-    ensures { IfSome (unless_memory result) (CrossingsPage C.kind C.equality C.sending preset.entry.header preset.entry.letters.now preset.entry.entries.now) }
+    ensures { IfSome (unless_memory result) (CrossingsPage C.kind C.sending preset.entry.header preset.entry.letters.now preset.entry.entries.now) }
 {
     let charges = charges_of::<C>(alloc, preset.entries)?;
     let mut strip = vec![in alloc; C::zero(); CROSSING_ROOM]?;

@@ -16,7 +16,7 @@ fn judge_parts<C: Charge, R: Rule + Drop, D: Density<C> + Drop>(
     crossings: &mut [C],
     ring: &mut [u8],
 ) -> Result<Option<Break<C>>, Fault>
-    ensures { JudgeFinds C.kind (R.meaning rule) (D.weights C.kind density) (judge_found C.kind C.equality (length crossings.old) (length ring.old) (R.meaning rule) (D.weights C.kind density)) crossings.old crossings.new ring.old ring.new result }
+    ensures { JudgeFinds C.kind (R.meaning rule) (D.weights C.kind density) (judge_found C.kind (length crossings.old) (length ring.old) (R.meaning rule) (D.weights C.kind density)) crossings.old crossings.new ring.old ring.new result }
 {
     Ok(Draft::new(rule, density)?.judge(crossings, ring)?.found())
 }
@@ -28,7 +28,7 @@ pub(crate) fn judge_tables<C: Charge>(
     crossings: &mut [C],
     ring: &mut [u8],
 ) -> Result<Option<Break<C>>, Fault>
-    ensures { JudgeFinds C.kind (preset_rule preset.entry.header preset.entry.letters.now) (preset_density C.kind preset.entry.header charges.now) (preset_found C.kind C.equality (length crossings.old) (length ring.old) preset.entry.header preset.entry.letters.now charges.now) crossings.old crossings.new ring.old ring.new result }
+    ensures { JudgeFinds C.kind (preset_rule preset.entry.header preset.entry.letters.now) (preset_density C.kind preset.entry.header charges.now) (preset_found C.kind (length crossings.old) (length ring.old) preset.entry.header preset.entry.letters.now charges.now) crossings.old crossings.new ring.old ring.new result }
 {
     let header = preset.header;
     let mut rule = TableRule::zero();

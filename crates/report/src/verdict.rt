@@ -55,7 +55,7 @@ pub(crate) fn judge_shape(preset: Loaded<'_>) -> Shape
 // The line of a preset of one kind.
 fn judge_charges<C: Sent>(alloc: Global, name: &str, preset: Loaded<'_>) -> Result<Line, AllocError>
     requires { preset.kind ≡ C.sending.named }
-    ensures { IfOk result (JudgeLine C.kind C.equality C.sending name.now preset.entry.header preset.entry.letters.now preset.entry.entries.now) }
+    ensures { IfOk result (JudgeLine C.kind C.sending name.now preset.entry.header preset.entry.letters.now preset.entry.entries.now) }
 {
     let charges = charges_of::<C>(alloc, preset.entries)?;
     let mut crossings = vec![in alloc; C::zero(); CROSSING_ROOM]?;

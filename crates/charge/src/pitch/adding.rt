@@ -1,6 +1,6 @@
 // The sum of pitch classes, modulo 12.
 ghost use Rattle.std.specs.Prelude.{◌≡◌, ◌+◌, ◌-◌, ◌%◌, ◌<◌, Decides};
-ghost use Rattle.charge.specs.Kinds.{pitch, pitch_equality};
+ghost use Rattle.charge.specs.Kinds.{pitch};
 ghost use Rattle.charge.specs.Ranges.{pitch_end};
 
 use crate::Charge;
@@ -29,8 +29,6 @@ fn equal_classes(a: u8, b: u8) -> bool
 
 impl Charge for Pitch {
     ghost kind = { pitch };
-
-    ghost equality = { pitch_equality };
 
     fn zero() -> Pitch {
         Pitch { class: 0 }

@@ -14,9 +14,8 @@ code_of-code-requires g c =
 pub loop-last-preserved : goal.loop-last-preserved
 loop-last-preserved g c =
     let K = g.C.Charge.kind in
-    let E = g.C.Charge.equality in
     let label = c.args.label.now in
-    search_more K E (g.L.Label.labels K label) (g.L.Label.lawful K label)
+    search_more K (g.L.Label.labels K label) (g.L.Label.lawful K label)
     (length c.args.crossings.now) c.q-q.result c.loop-head.head c.loop-last.last c.code_of-code.result c.fails.result
     (filled-count K (g.L.Label.labels K label) c.args.crossings.now c.requires) c.q-q.ensures c.code_of-code.ensures.is c.code_of-code.ensures.below c.loop-last.invariant c.fails.ensures
     c.if-fails.false
@@ -24,9 +23,8 @@ loop-last-preserved g c =
 pub returns-then-fails : goal.returns-then-fails
 returns-then-fails g c =
     let K = g.C.Charge.kind in
-    let E = g.C.Charge.equality in
     let label = c.args.label.now in
-    search-stop K E (g.L.Label.labels K label) (g.L.Label.lawful K label)
+    search-stop K (g.L.Label.labels K label) (g.L.Label.lawful K label)
     (length c.args.crossings.now) c.q-q.result c.loop-head.head c.loop-last.last c.code_of-code.result c.fails.result
     (filled-count K (g.L.Label.labels K label) c.args.crossings.now c.requires) c.q-q.ensures c.code_of-code.ensures.is c.code_of-code.ensures.below c.loop-last.invariant c.fails.ensures
     c.if-fails.true
@@ -34,6 +32,5 @@ returns-then-fails g c =
 pub returns-after-loop-head : goal.returns-after-loop-head
 returns-after-loop-head g c =
     let K = g.C.Charge.kind in
-    let E = g.C.Charge.equality in
     let label = c.args.label.now in
-    search_end K E (g.L.Label.labels K label) (g.L.Label.lawful K label) c.loop-head.head (omega (arith, filled-count K (g.L.Label.labels K label) c.args.crossings.now c.requires)) c.loop-head.invariant
+    search_end K (g.L.Label.labels K label) (g.L.Label.lawful K label) c.loop-head.head (omega (arith, filled-count K (g.L.Label.labels K label) c.args.crossings.now c.requires)) c.loop-head.invariant

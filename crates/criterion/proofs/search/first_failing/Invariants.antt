@@ -7,13 +7,11 @@ use Rattle.criterion.proofs.search.first_failing.Given as goal
 abbrev pub invariant-loop-last : goal.invariant-loop-last
 invariant-loop-last g l =
     let K = g.C.Charge.kind in
-    let E = g.C.Charge.equality in
     let d = g.L.Label.labels K l.label in
-    failing K E 0 d ≡ failing_from K E d (l.head * d.q + l.last)
+    failing K 0 d ≡ failing_from K d (l.head * d.q + l.last)
 
 abbrev pub invariant-loop-head : goal.invariant-loop-head
 invariant-loop-head g l =
     let K = g.C.Charge.kind in
-    let E = g.C.Charge.equality in
     let d = g.L.Label.labels K l.label in
-    failing K E 0 d ≡ failing_from K E d (l.head * d.q)
+    failing K 0 d ≡ failing_from K d (l.head * d.q)

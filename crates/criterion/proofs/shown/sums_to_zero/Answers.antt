@@ -10,5 +10,5 @@ returns-in_err-sum g c =
 pub returns : goal.returns
 returns g c =
     let K = g.C.Charge.kind in
-    ap Ok (zero-tested K (g.L.Label.labels K c.args.label.now) c.args.ring.now c.requires.length.0 c.requires.length.1 c.requires.letters g.C.Charge.equality
+    ap Ok (zero-tested K (g.L.Label.labels K c.args.label.now) c.args.ring.now c.requires.length.0 c.requires.length.1 c.requires.letters
     c.in_ok-sum.sum c.zero.result c.same.result c.in_ok-sum.ensures c.zero.ensures c.same.ensures)

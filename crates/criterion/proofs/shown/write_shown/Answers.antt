@@ -29,6 +29,6 @@ returns g c =
     let weighed = g.L.Label.lawful K label in
     let is = c.ring_of.ensures ∙ shown-taken K (g.L.Label.labels K label) weighed c.args.code c.q.result c.m-m.result _ c.q.ensures c.m-m.ensures
     (written c.q.result c.m-m.result c.args.code _ (omega (arith, weighed.sizes.3, c.m-m.ensures)) c.write_word.ensures)
-    g.C.Charge.equality _ c.in_ok-zero.ensures in
+    _ c.in_ok-zero.ensures in
     let all = copied _ _ c.args.strip.now c.copy_ring.new.strip c.copy_ring.result is c.copy_ring.ensures.answer c.copy_ring.ensures.strip in
     record { answer = all.0; strip = all.1 }

@@ -22,5 +22,5 @@ returns g c =
     let room = c.deref_mut.ensures.len ∙ c.in_ok-crossings.ensures.len in
     let same = c.compare_shape.ensures ∙ ap (λ (k : ChargeKind). compare_shape k p.header q.header) c.requires.first in
     IfOk-weaker c.line.result _ _ (λ l is.
-    compare-line K g.C.Charge.equality S c.args.subject.now p.header p.entries.now q.header q.entries.now c.deref.result.now c.deref-2.result.now (length c.deref_mut.result.now) _ room refl sent others_sent l
+    compare-line K S c.args.subject.now p.header p.entries.now q.header q.entries.now c.deref.result.now c.deref-2.result.now (length c.deref_mut.result.now) _ room refl sent others_sent l
     (told K S _ _ _ _ _ _ _ _ _ _ c.compare_tables-found.ensures c.sent_found.result c.sent_found.ensures Compare c.args.subject.now (shape_of c.compare_shape.result) (compare_shape S.named p.header q.header) same l is)) c.line.ensures

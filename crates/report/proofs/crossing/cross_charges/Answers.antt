@@ -15,8 +15,8 @@ returns-in_err-found g c =
     let sent = ap (map S.entry) c.deref.ensures.value ∙ c.in_ok-charges.ensures in
     let room = c.as_mut_slice-crossings.ensures.len ∙ c.in_ok-strip.ensures.len in
     refused_is _ c.from_residual-in_err-found.result c.in_err-found.field-0.0 c.from_residual-in_err-found.ensures.1
-    (crossings-page K g.C.Charge.equality S p.header p.letters.now p.entries.now c.deref.result.now (length c.as_mut_slice-crossings.result.now) _ room refl sent _
-    (refusal-told K g.C.Charge.equality S _ _ p.header p.letters.now c.deref.result.now _ c.judge_tables.new.crossings _ _ c.in_err-found.field-0.0 c.in_err-found.ensures))
+    (crossings-page K S p.header p.letters.now p.entries.now c.deref.result.now (length c.as_mut_slice-crossings.result.now) _ room refl sent _
+    (refusal-told K S _ _ p.header p.letters.now c.deref.result.now _ c.judge_tables.new.crossings _ _ c.in_err-found.field-0.0 c.in_err-found.ensures))
 
 pub page_line-requires : goal.page_line-requires
 page_line-requires g c =
@@ -35,5 +35,5 @@ returns g c =
     let sent = ap (map S.entry) c.deref.ensures.value ∙ c.in_ok-charges.ensures in
     let room = c.as_mut_slice-crossings.ensures.len ∙ c.in_ok-strip.ensures.len in
     let same = c.crossing_shape.ensures ∙ ap (λ (k : ChargeKind). crossing_shape k p.header) c.requires in
-    crossings-page K g.C.Charge.equality S p.header p.letters.now p.entries.now c.deref.result.now (length c.as_mut_slice-crossings.result.now) _ room refl sent _
-    (page-told K g.C.Charge.equality S _ _ p.header p.letters.now c.deref.result.now _ c.judge_tables.new.crossings _ _ c.in_ok-found.found c.in_ok-found.ensures (shape_of c.crossing_shape.result) same c.in_ok-page_line.field-0 c.in_ok-page_line.ensures)
+    crossings-page K S p.header p.letters.now p.entries.now c.deref.result.now (length c.as_mut_slice-crossings.result.now) _ room refl sent _
+    (page-told K S _ _ p.header p.letters.now c.deref.result.now _ c.judge_tables.new.crossings _ _ c.in_ok-found.found c.in_ok-found.ensures (shape_of c.crossing_shape.result) same c.in_ok-page_line.field-0 c.in_ok-page_line.ensures)

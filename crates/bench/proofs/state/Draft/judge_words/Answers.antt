@@ -9,5 +9,5 @@ returns g c =
     let r = g.R.Rule.meaning draft.parts.rule in
     let d = g.D.Density.weights K draft.parts.density in
     let same = rule_list-same K draft.sizes r d e.0 e.1 e.2 e.3 e.4 in
-    let l = left_passed K g.C.Charge.equality _ _ _ _ _ _ c.args.crossings.now c.examine.new.crossings c.args.ring.now c.examine.new.ring (sizes-pass draft.sizes r d e) same c.examine.ensures.answer c.examine.ensures.crossings c.examine.ensures.ring in
+    let l = left_passed K _ _ _ _ _ _ c.args.crossings.now c.examine.new.crossings c.args.ring.now c.examine.new.ring (sizes-pass draft.sizes r d e) same c.examine.ensures.answer c.examine.ensures.crossings c.examine.ensures.ring in
     record { answer = l.answer; crossings = l.crossings; ring = l.ring }

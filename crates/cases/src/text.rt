@@ -1,6 +1,6 @@
 // Examples: rule 184 and a density of kind both, with their pages, and pages that are wrong.
-use crate::*;
 use charge::ChargeKind;
+use console::{Expected, Part, TextError, line_of_refusal, page, parse};
 use fault::Stop;
 use preset::{Entry, Header};
 use std::test::Fail;
