@@ -29,7 +29,7 @@ pub data Comparison (A : Type 0) : Type 0 where
   agree : Comparison A
   differ : Broken A → Comparison A
 
--- a ring that may be shown: of letters below q, and no longer than the longest that is
+-- a ring that may be shown: of letters below q, with at least one cell and at most as many as any has that is shown
 abbrev pub Ring : ℕ → List ℕ → Type 0
 Ring q c = (1 ≤ length c) × (length c ≤ most_shown) × Letters q c
 
