@@ -1,0 +1,174 @@
+-- The calls of a player: when each is refused, what it makes of a ring and its strips, and what it answers. Assumes nothing.
+use Rattle.std.specs.Prelude.{ℕ, suc, ◌+◌, ◌-◌, Bool, ltb, List, [], ◌∷◌, ◌++◌, length, take, drop, set, min, Ok, Err, Result, nat_le, nat_lt, slice_index_or}
+use Rattle.fault.specs.declared.Stop.{Stop}
+use Rattle.fault.specs.declared.Stop.TheVariants.{BadLength, ShortStrip, BadPosition, BadLetter}
+use Rattle.fault.specs.Answers.{and_then}
+use Rattle.fault.specs.Checks.{tested, each_fits}
+use Rattle.fault.specs.Limits.{most_cells, within}
+use Rattle.fault.specs.Refusals.{Refusal}
+use Rattle.charge.specs.Groups.{Group, Kind, minus}
+use Rattle.automaton.specs.Words.{window, table, cell, before}
+use Rattle.automaton.specs.Meanings.{Local, Weights, next, site, booking_offset}
+use Rattle.criterion.specs.Search.{padding, J}
+use Rattle.bench.specs.Labels.{rule_label_list}
+
+-- open takes a ring, touch a position and a letter, read a position
+pub data Call : Type 0 where
+  opens : List ℕ → Call
+  touches : ℕ → ℕ → Call
+  steps : Call
+  reads : ℕ → Call
+  closes : Call
+
+-- a call is done, or answers a site's opening, crossed and touched charges and its charge now, or is refused
+pub data Answer (A : Type 0) : Type 0 where
+  done : Answer A
+  reading : A → A → A → A → Answer A
+  refused : Refusal → Answer A
+
+-- a ring of L cells, with three charges a site
+pub record Ring (A : Type 0) : Type 0 where
+  pub cells : List ℕ
+  pub opening : List A
+  pub crossed : List A
+  pub touched : List A
+
+-- The five strips of a caller, each of any length. A call looks only at those that it reads or writes.
+pub record Strips (A : Type 0) : Type 0 where
+  pub cells : List ℕ
+  pub spare : List ℕ
+  pub opening : List A
+  pub crossed : List A
+  pub touched : List A
+
+-- how many cells the ring of a call has: the ring that open is given, or else the ring that is open
+abbrev pub size : {A : Type 0} → Call → Ring A → ℕ
+size (opens ring) p = length ring
+size (touches i a) p = length p.cells
+size steps p = length p.cells
+size (reads i) p = length p.cells
+size closes p = length p.cells
+
+-- what a call on a ring of L cells is held to, in the order of the stop codes
+abbrev pub tests : {A : Type 0} → ℕ → Call → Strips A → List (Bool × Stop)
+tests L (opens ring) s =
+    (within 1 (suc most_cells) L, BadLength)
+    ∷ (nat_le L (min (length s.cells) (min (length s.opening) (min (length s.crossed) (length s.touched)))), ShortStrip)
+    ∷ []
+tests L (touches i a) s = (nat_le L (min (length s.cells) (length s.touched)), ShortStrip) ∷ (nat_lt i L, BadPosition) ∷ []
+tests L steps s = (nat_le L (min (length s.cells) (min (length s.spare) (length s.crossed))), ShortStrip) ∷ []
+tests L (reads i) s =
+    (nat_le L (min (length s.cells) (min (length s.opening) (min (length s.crossed) (length s.touched)))), ShortStrip)
+    ∷ (nat_lt i L, BadPosition)
+    ∷ []
+tests L closes s = []
+
+-- the letters that a call is held to last: those of the ring, and then the letter of a touch
+abbrev pub letters : {A : Type 0} → ℕ → Call → Strips A → List ℕ
+letters L (opens ring) s = ring
+letters L (touches i a) s = take L s.cells ++ (a ∷ [])
+letters L steps s = take L s.cells
+letters L (reads i) s = take L s.cells
+letters L closes s = []
+
+-- the refusal of a call, if there is one, by the strips that it is handed
+abbrev pub checked : {A : Type 0} → ℕ → ℕ → Call → Strips A → Result (Unit {0}) Refusal
+checked q L call s = and_then (tested (tests L call s)) (λ _. each_fits (λ a. ltb a q) BadLetter 0 (letters L call s))
+
+-- f i is added to each entry i
+abbrev pub booked : (G : Group) → (ℕ → G.Carrier) → List G.Carrier → List G.Carrier
+booked G f xs = table (length xs) (λ i. G.add (slice_index_or xs i G.zero) (f i))
+
+-- the first L entries of a caller's strips
+abbrev pub front : {A : Type 0} → ℕ → Strips A → Ring A
+front L s = record { cells = take L s.cells; opening = take L s.opening; crossed = take L s.crossed; touched = take L s.touched }
+
+-- a step keeps the cells as they stood
+abbrev pub spared : {A : Type 0} → ℕ → Call → Strips A → List ℕ
+spared L (opens ring) s = s.spare
+spared L (touches i a) s = s.spare
+spared L steps s = take L s.cells ++ drop L s.spare
+spared L (reads i) s = s.spare
+spared L closes s = s.spare
+
+-- what a call answers, and the strips as it leaves them
+pub record Outcome (A : Type 0) : Type 0 where
+  pub said : Answer A
+  pub left : Strips A
+
+-- a rule and a density that make a bench
+module _ {C : Type 0} (K : Kind C) (r : Local) (d : Weights K.group.Carrier) where
+  -- the charge of each site
+  abbrev pub charges : List ℕ → ℕ → K.group.Carrier
+  charges c i = site K.group booking_offset d c i
+
+  -- what crosses into site i in a step: J of the m - 1 cells from cell i - l on
+  abbrev pub crossing_at : List ℕ → ℕ → K.group.Carrier
+  crossing_at c i = J K padding (rule_label_list K.group r d) (window (r.n + d.k - 2) (cell c) (before (length c) r.l i))
+
+  -- a ring as it is opened
+  abbrev pub opened : List ℕ → Ring K.group.Carrier
+  opened c = record {
+    cells = c;
+    opening = table (length c) (charges c);
+    crossed = table (length c) (λ _. K.group.zero);
+    touched = table (length c) (λ _. K.group.zero);
+  }
+
+  -- a ring with letter a put into cell i: each site is touched by its charge afterwards less its charge before
+  abbrev pub put : ℕ → ℕ → Ring K.group.Carrier → Ring K.group.Carrier
+  put i a p = record {
+    cells = set p.cells i a;
+    opening = p.opening;
+    crossed = p.crossed;
+    touched = booked K.group (λ j. minus K.group (charges (set p.cells i a) j) (charges p.cells j)) p.touched;
+  }
+
+  -- a ring after one step: each site is crossed by what crosses into it
+  abbrev pub stepped : Ring K.group.Carrier → Ring K.group.Carrier
+  stepped p = record {
+    cells = next r p.cells;
+    opening = p.opening;
+    crossed = booked K.group (crossing_at p.cells) p.crossed;
+    touched = p.touched;
+  }
+
+  -- what a call that is not refused makes of a ring
+  abbrev pub work : Call → Ring K.group.Carrier → Ring K.group.Carrier
+  work (opens ring) p = opened ring
+  work (touches i a) p = put i a p
+  work steps p = stepped p
+  work (reads i) p = p
+  work closes p = p
+
+  -- and what it answers
+  abbrev pub answer : Call → Ring K.group.Carrier → Answer K.group.Carrier
+  answer (opens ring) p = done
+  answer (touches i a) p = done
+  answer steps p = done
+  answer (reads i) p =
+      let at : List K.group.Carrier → K.group.Carrier = λ xs. slice_index_or xs i K.group.zero in
+      reading (at p.opening) (at p.crossed) (at p.touched) (charges p.cells i)
+  answer closes p = done
+
+  -- a call that is not refused works on the first L entries of the strips, and those past L stay
+  abbrev pub worked : ℕ → Call → Strips K.group.Carrier → Outcome K.group.Carrier
+  worked L call s = record {
+    said = answer call (front L s);
+    left = record {
+      cells = (work call (front L s)).cells ++ drop L s.cells;
+      spare = spared L call s;
+      opening = (work call (front L s)).opening ++ drop L s.opening;
+      crossed = (work call (front L s)).crossed ++ drop L s.crossed;
+      touched = (work call (front L s)).touched ++ drop L s.touched;
+    };
+  }
+
+  -- a refused call leaves all as it was
+  abbrev pub unless_refused : Result (Unit {0}) Refusal → Outcome K.group.Carrier → Strips K.group.Carrier → Outcome K.group.Carrier
+  unless_refused (Ok t) got s = got
+  unless_refused (Err f) got s = record { said = refused f; left = s }
+
+  -- a call on a ring of L cells, by the strips that it is handed
+  abbrev pub outcome : ℕ → Call → Strips K.group.Carrier → Outcome K.group.Carrier
+  outcome L call s = unless_refused (checked r.q L call s) (worked L call s) s

@@ -1,0 +1,4 @@
+pub mod Calls
+pub mod Logs
+pub mod Laws
+pub mod Scripts

@@ -1,0 +1,133 @@
+-- Logs of a player's calls, the plain ring, and what holds on each line of a log without gaps. Assumes nothing.
+use Rattle.std.specs.Prelude.{◌≡◌, ℕ, ◌+◌, ◌≤◌, Bool, true, List, [], length, Ok, Err, Result, nat_le, nat_eq}
+use Rattle.fault.specs.Refusals.{Refusal}
+use Rattle.charge.specs.Groups.{Group, Kind, minus, sum}
+use Rattle.automaton.specs.Words.{round}
+use Rattle.automaton.specs.Meanings.{Local, Weights, Lawful, Weighed}
+use Rattle.bench.specs.Laws.{KeepsTotal}
+use Rattle.bench.specs.Verdicts.{bench_checked}
+use Rattle.player.specs.Calls.{Call, Answer, Ring, Strips, Outcome, size, checked, front, charges, work, answer, outcome}
+use Rattle.player.specs.Calls.Call.{opens, touches, steps, reads, closes}
+use Rattle.player.specs.Calls.Answer.{done, reading, refused}
+
+-- a call, the strips that it was handed, what it answered and how it left them
+pub record Line (A : Type 0) : Type 0 where
+  pub call : Call
+  pub handed : Strips A
+  pub got : Outcome A
+
+infixl 4 ◌then◌
+
+-- the lines of a log, from the making of a bench on
+pub data Log (A : Type 0) : Type 0 where
+  made : Log A
+  ◌then◌ : Log A → Line A → Log A
+
+-- no ring is open: a ring of no cells
+abbrev pub no_ring : {A : Type 0} → Ring A
+no_ring = record { cells = []; opening = []; crossed = []; touched = [] }
+
+-- the states allow open while no ring is open, and the other calls while one is
+abbrev pub allowed : {A : Type 0} → Call → Ring A → Bool
+allowed (opens ring) p = nat_eq (length p.cells) 0
+allowed (touches i a) p = nat_le 1 (length p.cells)
+allowed steps p = nat_le 1 (length p.cells)
+allowed (reads i) p = nat_le 1 (length p.cells)
+allowed closes p = nat_le 1 (length p.cells)
+
+-- close ends the ring
+abbrev pub ended : {A : Type 0} → Call → Ring A → Ring A
+ended (opens ring) p = p
+ended (touches i a) p = p
+ended steps p = p
+ended (reads i) p = p
+ended closes p = no_ring
+
+-- the strips that a call reads or writes, of p; the others, of o
+abbrev pub used : {A : Type 0} → Call → Ring A → Ring A → Ring A
+used (opens ring) p o = p
+used (touches i a) p o = record { cells = p.cells; opening = o.opening; crossed = o.crossed; touched = p.touched }
+used steps p o = record { cells = p.cells; opening = o.opening; crossed = p.crossed; touched = o.touched }
+used (reads i) p o = p
+used closes p o = o
+
+-- x after a call that was accepted, y after one that was refused
+abbrev pub accepted : {A X : Type 0} → Answer A → X → X → X
+accepted done x y = x
+accepted (reading o c t n) x y = x
+accepted (refused f) x y = y
+
+abbrev pub Accepted : {A : Type 0} → Answer A → Type 0
+Accepted done = Unit {0}
+Accepted (reading o c t n) = Unit {0}
+Accepted (refused f) = ⊥
+
+-- the first L entries of the four strips, as the last accepted call left them
+abbrev pub standing : {A : Type 0} → Log A → Ring A
+standing made = no_ring
+standing (log then line) =
+    let p = standing log in
+    accepted line.got.said (ended line.call (used line.call (front (size line.call p) line.got.left) p)) p
+
+-- a touch, a step and a read are handed what stands, in the first L entries of the strips that they read or write
+abbrev pub HandedOn : {A : Type 0} → Call → Strips A → Ring A → Type 0
+HandedOn (opens ring) s p = Unit {0}
+HandedOn (touches i a) s p = used (touches i a) (front (length p.cells) s) p ≡ p
+HandedOn steps s p = used steps (front (length p.cells) s) p ≡ p
+HandedOn (reads i) s p = used (reads i) (front (length p.cells) s) p ≡ p
+HandedOn closes s p = Unit {0}
+
+-- what is said of each line of a log, and of the log before it
+abbrev pub OnEveryLine : {A : Type 0} → (Log A → Line A → Type 0) → Log A → Type 0
+OnEveryLine P made = Unit {0}
+OnEveryLine P (log then line) = OnEveryLine P log × P log line
+
+-- the sum over the n sites of an arc, from site a on
+abbrev pub arc : (G : Group) → (ℕ → G.Carrier) → ℕ → ℕ → G.Carrier
+arc G f a n = sum G (λ t. f (a + t)) n
+
+module _ {C : Type 0} (K : Kind C) (r : Local) (d : Weights K.group.Carrier) where
+  -- The plain ring is fed calls and what they were handed, and no answers: it keeps cells, opening, crossed and
+  -- touched of its own.
+  abbrev pub unless_refused : {X : Type 0} → Result (Unit {0}) Refusal → X → (Refusal → X) → X
+  unless_refused (Ok t) x y = x
+  unless_refused (Err f) x y = y f
+
+  abbrev pub plain_answer : Ring K.group.Carrier → Call → Strips K.group.Carrier → Answer K.group.Carrier
+  plain_answer p call handed = unless_refused (checked r.q (size call p) call handed) (answer K r d call p) refused
+
+  abbrev pub plain_after : Ring K.group.Carrier → Call → Strips K.group.Carrier → Ring K.group.Carrier
+  plain_after p call handed = unless_refused (checked r.q (size call p) call handed) (ended call (work K r d call p)) (λ _. p)
+
+  abbrev pub plain : Log K.group.Carrier → Ring K.group.Carrier
+  plain made = no_ring
+  plain (log then line) = plain_after (plain log) line.call line.handed
+
+  -- A line goes on from where the player stands: the states allow its call, which keeps its promise, and which if it
+  -- is accepted was handed what stands.
+  pub record GoesOn (p : Ring K.group.Carrier) (line : Line K.group.Carrier) : Type 0 where
+    pub order : allowed line.call p ≡ true
+    pub promise : line.got ≡ outcome K r d (size line.call p) line.call line.handed
+    pub no_gap : Accepted line.got.said → HandedOn line.call line.handed p
+
+  abbrev pub WithoutGaps : Log K.group.Carrier → Type 0
+  WithoutGaps = OnEveryLine (λ log line. GoesOn (standing log) line)
+
+  -- each arc's charge is that at opening, plus what crossed in, less what crossed out, plus what was touched
+  abbrev pub ArcsAgree : Ring K.group.Carrier → Type 0
+  ArcsAgree p = (a n : ℕ) → n ≤ length p.cells →
+      let G = K.group in
+      let at : List G.Carrier → ℕ → G.Carrier = round G.zero in
+      arc G (charges K r d p.cells) a n
+      ≡ G.add (G.add (arc G (at p.opening) a n) (minus G (at p.crossed a) (at p.crossed (a + n)))) (arc G (at p.touched) a n)
+
+  -- the answer is the plain ring's, what stands is what the plain ring keeps, and the arcs agree
+  pub record LineTrue (log : Log K.group.Carrier) (line : Line K.group.Carrier) : Type 0 where
+    pub answers : line.got.said ≡ plain_answer (plain log) line.call line.handed
+    pub rings : standing (log then line) ≡ plain (log then line)
+    pub arcs : ArcsAgree (standing (log then line))
+
+-- from the making of a bench that holds, on every line of a log without gaps
+abbrev pub LogsTrue : {C : Type 0} → Kind C → Type 0
+LogsTrue K = (r : Local) (d : Weights K.group.Carrier) → Lawful r → Weighed d → bench_checked r d ≡ Ok tt → KeepsTotal K.group r d →
+    (log : _) → WithoutGaps K r d log → OnEveryLine (LineTrue K r d) log
