@@ -30,10 +30,14 @@ rounds (suc n) l i some =
     let plain : suc n - 1 ≡ n = omega arith in
     rw plain (omega (arith, div-add-mod l (suc n), mod-lt l {m = suc n} (omega arith), mul_comm l (suc n), suc-mul n l, suc-mul (l / suc n) (suc n), mul_comm (l / suc n) (suc n)))
 
--- l cells before cell i, by one round at most
-pub before-round : (m : ℕ) (c : List ℕ) (l i : ℕ) → 1 ≤ length c → window m (cell c) (i + (length c - l % length c)) ≡ window m (cell c) (before (length c) l i)
-before-round m c l i some =
-    sym (turns w n turn l (i + (n - l % n))) ∙ ap w (rounds n l i some) ∙ turns w n turn (suc (l / n)) (before n l i)
+-- the cells around cell i, from an index that is at most two rounds on
+pub span-round : (m : ℕ) (c : List ℕ) (l i : ℕ) → 1 ≤ length c → window m (cell c) (i % length c + (length c - l % length c)) ≡ window m (cell c) (before (length c) l i)
+span-round m c l i some =
+    sym (turns w n turn l (i % n + (n - l % n)))
+    ∙ ap w (rounds n l (i % n) some)
+    ∙ turns w n turn (suc (l / n)) (before n l (i % n))
+    ∙ sym (turns w n turn (i / n) (before n l (i % n)))
+    ∙ ap w (omega (arith, div-add-mod i n, mul_comm n (i / n)))
   where
     n : ℕ
     n = length c
@@ -54,11 +58,10 @@ window-whole k w e =
 
 -- the next letter of a cell, as it is computed
 pub next-letter-at : (r : Local) (c : List ℕ) (i q n l x a : ℕ) → i < length c → q ≡ r.q → n ≡ r.n → l ≡ r.l →
-    x ≡ code q (window n (cell c) (i + (length c - l % length c))) → a ≡ get_or r.answers x 0 → a ≡ get_or (next r c) i 0
+    x ≡ code q (window n (cell c) (before (length c) l i)) → a ≡ get_or r.answers x 0 → a ≡ get_or (next r c) i 0
 next-letter-at r c i q n l x a within eq en el ex ea =
     ea
-    ∙ ap (λ t. get_or r.answers t 0)
-    (ex ∙ rw (eq, en, el) (ap (code r.q) (before-round r.n c r.l i (omega arith))))
+    ∙ ap (λ t. get_or r.answers t 0) (ex ∙ (λ j. code (eq j) (window (en j) (cell c) (before (length c) (el j) i))))
     ∙ sym (get_or-table (length c) (λ j. answer r (window r.n (cell c) (before (length c) r.l j))) 0 i within)
 
 -- one entry more at the front of a strip, and all of them

@@ -16,7 +16,7 @@ mod words;
 pub use density::Density;
 pub use lookup_rule::LookupRule;
 pub use pattern::PatternDensity;
-pub use ring::{next_ring, total};
+pub use ring::{Ring, Span, next_ring, total};
 pub use rule::Rule;
 pub use shown::{ShownLetters, ShownWord};
 pub use sum_rule::{BySum, SumRule};

@@ -64,7 +64,7 @@ impl<C: Charge> PatternDensity<C> {
             q: words.q,
             cells: letters,
         };
-        let pattern = ring.window_code(words.m, 0);
+        let pattern = ring.code_from(words.m, 0);
         *self = PatternDensity {
             words,
             pattern,

@@ -1,9 +1,9 @@
-// The next ring, and the total of a ring.
-ghost use Rattle.std.specs.Prelude.{◌≡◌, ◌<◌, ◌≤◌, length, Ok, Err, MatchResult, slice_index, slice_set};
-ghost use Rattle.fault.specs.Limits.{most_letters, most_cells};
+// Rings, their next rings and their totals.
+ghost use Rattle.std.specs.Prelude.{◌≡◌, ◌+◌, ◌-◌, ◌%◌, ◌<◌, ◌≤◌, length, Ok, Err, MatchResult, slice_index, slice_index_or, slice_set};
+ghost use Rattle.fault.specs.Limits.{most_letters, most_window, most_cells};
 ghost use Rattle.fault.specs.Refusals.{refusal};
 ghost use Rattle.fault.specs.Answers.{plainly, and_then, strip_after, front};
-ghost use Rattle.automaton.specs.Words.{Letters, code, window, cell};
+ghost use Rattle.automaton.specs.Words.{Letters, code, window, cell, before};
 ghost use Rattle.automaton.specs.Meanings.{next, booking_offset, site};
 ghost use Rattle.automaton.specs.Meanings.{total as total_of};
 ghost use Rattle.automaton.specs.Making.{ring_checked, done, charged};
@@ -15,15 +15,26 @@ use charge::Charge;
 use fault::limits::MOST_CELLS;
 use fault::{Fault, Stop};
 
+// Where the cells of a window stand around a cell: `width` of them, of which `before` stand before the cell itself.
+#[derive(Clone, Copy)]
+pub struct Span {
+    pub before: usize,
+    pub width: usize,
+    pub ghost narrow: { width ≤ most_window },
+}
+
+// A window's charge is booked at its first cell.
+const BOOKING_OFFSET: usize = 0;
+
 // A ring of 1 to MOST_CELLS cells, of letters below q.
 #[derive(Clone, Copy)]
-pub(crate) struct Ring<'a> {
+pub struct Ring<'a> {
     pub q: usize,
     pub cells: &'a [u8],
-    ghost few: { q ≤ most_letters },
-    ghost some: { 1 ≤ length cells.now },
-    ghost most: { length cells.now ≤ most_cells },
-    ghost letters: { Letters q cells.now },
+    pub ghost few: { q ≤ most_letters },
+    pub ghost some: { 1 ≤ length cells.now },
+    pub ghost most: { length cells.now ≤ most_cells },
+    pub ghost letters: { Letters q cells.now },
 }
 
 impl<'a> Ring<'a> {
@@ -38,8 +49,15 @@ impl<'a> Ring<'a> {
         Ok(Ring { q, cells })
     }
 
+    // The ring of these cells under a rule, with `room` for as many, or the refusal.
+    pub fn under<R: Rule>(rule: &R, room: usize, cells: &'a [u8]) -> Result<Ring<'a>, Fault>
+        ensures { MatchResult result (λ r. (ring_checked (R.meaning rule.now).q room cells.now ≡ Ok r.cells.now) × (r.q ≡ (R.meaning rule.now).q) × (r.cells.now ≡ cells.now) × (length cells.now ≤ room)) (λ f. ring_checked (R.meaning rule.now).q room cells.now ≡ Err (refusal f)) }
+    {
+        Ring::checked(rule.q(), room, cells)
+    }
+
     // The code of the cells from `start` on, which may pass the same cell more than once.
-    pub(crate) fn window_code(self, width: usize, start: usize) -> usize
+    pub(crate) fn code_from(self, width: usize, start: usize) -> usize
         requires { (width ≤ 12) × (start ≤ 8192) }
         ensures { result ≡ code self.entry.q (window width (cell self.entry.cells.now) start) }
     {
@@ -51,15 +69,32 @@ impl<'a> Ring<'a> {
         code
     }
 
+    // The index of the cell `before` cells before cell i, a round or two on.
+    fn index_before(self, before: usize, i: usize) -> usize
+        ensures { result ≡ i % length self.entry.cells.now + (length self.entry.cells.now - before % length self.entry.cells.now) }
+    {
+        let len = self.cells.len();
+        i % len + (len - before % len)
+    }
+
+    // The code of the cells around cell i, which is also cell i + L.
+    pub fn span_code(self, span: Span, i: usize) -> usize
+        ensures { result ≡ code self.entry.q (window span.width (cell self.entry.cells.now) (before (length self.entry.cells.now) span.before i)) }
+    {
+        self.code_from(span.width, self.index_before(span.before, i))
+    }
+
     // The next letter of cell i.
     fn next_letter<R: Rule>(self, rule: &R, i: usize) -> u8
         requires alphabet { (R.meaning rule.now).q ≡ self.q }
         requires cell { i < length self.cells.now }
         ensures { result ≡ slice_index (next (R.meaning rule.now) self.entry.cells.now) i }
     {
-        let len = self.cells.len();
-        let start = i + (len - rule.l() % len);
-        rule.answer(self.window_code(rule.n(), start))
+        let span = Span {
+            before: rule.l(),
+            width: rule.n(),
+        };
+        rule.answer(self.span_code(span, i))
     }
 
     // Writes the next letter of cell i to its place in the strip.
@@ -83,13 +118,15 @@ impl<'a> Ring<'a> {
         }
     }
 
-    // The charge of site i.
-    fn site_charge<C: Charge, D: Density<C>>(self, density: &D, i: usize) -> C
-        requires alphabet { (D.weights C.kind density.now).q ≡ self.q }
-        requires cell { i < length self.cells.now }
-        ensures { C.kind.means result ≡ site C.kind.group booking_offset (D.weights C.kind density.now) self.entry.cells.now i }
+    // The charge of site i, which is also site i + L, by the code of its cells.
+    pub fn site_charge<C: Charge, D: Density<C>>(self, density: &D, i: usize) -> C
+        ensures { C.kind.means result ≡ slice_index_or (D.weights C.kind density.now).charges (code self.entry.q (window (D.weights C.kind density.now).k (cell self.entry.cells.now) (before (length self.entry.cells.now) booking_offset i))) C.kind.group.zero }
     {
-        density.charge(self.window_code(density.k(), i))
+        let span = Span {
+            before: BOOKING_OFFSET,
+            width: density.k(),
+        };
+        density.charge(self.span_code(span, i))
     }
 
     // The sum over the sites.

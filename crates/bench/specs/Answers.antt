@@ -5,7 +5,6 @@ use Rattle.fault.specs.declared.Fault.{Fault}
 use Rattle.fault.specs.Refusals.{Refusal, refusal}
 use Rattle.charge.specs.Groups.{Kind}
 use Rattle.bench.specs.declared.state.Break.{Break}
-use Rattle.bench.specs.declared.state.Parts.{Parts}
 use Rattle.bench.specs.declared.state.Refused.{Refused}
 use Rattle.bench.specs.declared.state.Verdict.{Verdict}
 use Rattle.bench.specs.declared.state.Verdict.TheVariants.{Holds, Breaks}
@@ -19,21 +18,21 @@ abbrev pub breaks_mean : {C : Type 0} → (K : Kind C) → Option (Break C) → 
 breaks_mean K found = option_map (break_means K) found
 
 -- a verdict and a comparison by what they mean
-abbrev pub verdict_means : {C R D : Type 0} → (K : Kind C) → Verdict C R D → Judgement K.group.Carrier
+abbrev pub verdict_means : {C H B : Type 0} → (K : Kind C) → Verdict C H B → Judgement K.group.Carrier
 verdict_means K (Holds h) = holds
-verdict_means K (Breaks h b) = breaks (break_means K b)
+verdict_means K (Breaks b found) = breaks (break_means K found)
 
 abbrev pub likeness_means : {C : Type 0} → (K : Kind C) → Option (Break C) → Comparison K.group.Carrier
 likeness_means K None = agree
 likeness_means K (Some b) = differ (break_means K b)
 
 -- the break that a verdict tells of, if it tells of one
-abbrev pub break_of : {C R D : Type 0} → Verdict C R D → Option (Break C)
+abbrev pub break_of : {C H B : Type 0} → Verdict C H B → Option (Break C)
 break_of (Holds h) = None
-break_of (Breaks h b) = Some b
+break_of (Breaks b found) = Some found
 
 -- the answers of the calls, likewise
-abbrev pub judge_said : {C R D S : Type 0} → (K : Kind C) → Result (Verdict C R D) (Refused S) → Result (Judgement K.group.Carrier) Refusal
+abbrev pub judge_said : {C H B S : Type 0} → (K : Kind C) → Result (Verdict C H B) (Refused S) → Result (Judgement K.group.Carrier) Refusal
 judge_said K (Ok v) = Ok (verdict_means K v)
 judge_said K (Err e) = Err (refusal e.fault)
 
@@ -53,7 +52,7 @@ abbrev pub draft_said : {X S : Type 0} → Result X (Refused S) → Result (Unit
 draft_said (Ok draft) = Ok tt
 draft_said (Err e) = Err (refusal e.fault)
 
--- the rule and the density that a verdict hands on
-abbrev pub verdict_parts : {C R D : Type 0} → Verdict C R D → Parts R D
-verdict_parts (Holds h) = h.parts
-verdict_parts (Breaks h b) = h.parts
+-- the rule and the density that a verdict hands on, by those of each state
+abbrev pub verdict_parts : {C H B P : Type 0} → (H → P) → (B → P) → Verdict C H B → P
+verdict_parts of_holding of_breaking (Holds h) = of_holding h
+verdict_parts of_holding of_breaking (Breaks b found) = of_breaking b

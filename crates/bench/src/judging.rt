@@ -22,13 +22,20 @@ use criterion::{Failure, MOST_SHOWN, examine};
 use fault::Fault;
 use std::marker::PhantomData;
 
+// What a draft is once it is judged.
+pub type Judged<C, R, D> = Verdict<C, Holding<C, R, D>, Breaking<R, D>>;
+
 // The bench in the state that a break, or none, puts it into.
-fn verdict_of<C: Charge, R, D>(parts: Parts<R, D>, found: Option<Break<C>>) -> Verdict<C, R, D>
+fn verdict_of<C: Charge, R: Rule, D: Density<C>>(
+    draft: Draft<C, R, D>,
+    found: Option<Break<C>>,
+) -> Judged<C, R, D>
     ensures verdict { verdict_means C.kind result ≡ verdict_of (breaks_mean C.kind found) }
-    ensures parts { verdict_parts result ≡ parts }
+    ensures parts { verdict_parts (λ h. h.parts) (λ b. b.parts) result ≡ draft.parts }
 {
+    let Draft { parts, sizes, kind } = draft;
     match found {
-        None => Verdict::Holds(Holding { parts }),
+        None => Verdict::Holds(Holding { parts, sizes, kind }),
         Some(found) => Verdict::Breaks(Breaking { parts }, found),
     }
 }
@@ -108,24 +115,17 @@ impl<C: Charge, R: Rule, D: Density<C>> Draft<C, R, D> {
         self,
         crossings: &mut [C],
         ring: &mut [u8],
-    ) -> Result<Verdict<C, R, D>, Refused<Draft<C, R, D>>>
+    ) -> Result<Judged<C, R, D>, Refused<Draft<C, R, D>>>
         ensures answer { judge_said C.kind result ≡ judging C.kind (length crossings.old) (length ring.old) (R.meaning self.parts.rule) (D.weights C.kind self.parts.density) }
         ensures refused { IfErr result (λ e. refusal e.fault ≡ refused_at ShortStrip 0) }
-        ensures parts { MatchResult result (λ verdict. verdict_parts verdict ≡ self.parts) (λ e. e.state ≡ self) }
+        ensures parts { MatchResult result (λ verdict. verdict_parts (λ h. h.parts) (λ b. b.parts) verdict ≡ self.parts) (λ e. e.state ≡ self) }
         ensures crossings { FrontMeans C.kind (judge_crossings C.kind (length crossings.old) (length ring.old) (R.meaning self.parts.rule) (D.weights C.kind self.parts.density)) crossings.old crossings.new }
         ensures ring { ring.new ≡ front (ring_written (judge_found C.kind (length crossings.old) (length ring.old) (R.meaning self.parts.rule) (D.weights C.kind self.parts.density))) ring.old }
         ensures right { VerdictRight C.kind (R.meaning self.parts.rule) (D.weights C.kind self.parts.density) (judge_found C.kind (length crossings.old) (length ring.old) (R.meaning self.parts.rule) (D.weights C.kind self.parts.density)) }
         ensures whole { VerdictWhole }
     {
         match self.judge_on(crossings, ring) {
-            Ok(found) => {
-                let Draft {
-                    parts,
-                    sizes: _,
-                    kind: _,
-                } = self;
-                Ok(verdict_of(parts, found))
-            }
+            Ok(found) => Ok(verdict_of(self, found)),
             Err(fault) => Err(Refused { state: self, fault }),
         }
     }

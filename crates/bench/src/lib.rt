@@ -2,6 +2,7 @@
 #![tactic(auto)]
 
 mod comparing;
+mod holding;
 mod judging;
 mod parts;
 mod rule_label;
@@ -10,6 +11,7 @@ mod state;
 mod two_label;
 
 pub use comparing::compare;
+pub use judging::Judged;
 pub use rule_label::RuleLabel;
 pub use state::{Break, Breaking, Draft, Holding, Parts, Refused, Verdict};
 pub use two_label::TwoLabel;

@@ -26,8 +26,11 @@ pub struct Draft<C: Charge, R: Rule, D: Density<C>> {
 
 // A bench on which no ring changes its total.
 #[derive(Drop)]
-pub struct Holding<R, D> {
+pub struct Holding<C: Charge, R: Rule, D: Density<C>> {
     pub(crate) parts: Parts<R, D>,
+    pub(crate) sizes: RuleSizes,
+    pub(crate) kind: PhantomData<C>,
+    ghost sized: { SizesOf sizes (R.meaning parts.rule) (D.weights C.kind parts.density) },
 }
 
 // A bench on which some ring changes its total.
@@ -46,14 +49,15 @@ pub struct Break<C> {
     pub second: C,
 }
 
-// The bench in its next state. An enum of its own, since neither case is an error, as one would be in a `Result`.
+// A bench in its next state: H where it holds, and B where it breaks. An enum of its own, since neither case is an error,
+// as one would be in a `Result`.
 #[derive(Drop)]
-pub enum Verdict<C, R, D> {
-    Holds(Holding<R, D>),
-    Breaks(Breaking<R, D>, Break<C>),
+pub enum Verdict<C, H, B> {
+    Holds(H),
+    Breaks(B, Break<C>),
 }
 
-impl<C: Drop, R: Drop, D: Drop> Verdict<C, R, D> {
+impl<C: Drop, H: Drop, B: Drop> Verdict<C, H, B> {
     ghost use Rattle.bench.specs.Answers.{break_of};
 
     // The break, if there is one, without the bench.

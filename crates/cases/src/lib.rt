@@ -1,8 +1,9 @@
-// Worked examples: small cases whose answers are known, run against the crates that they speak of.
+// Worked examples: small cases whose answers are known, proved, or run against the crates that they speak of.
 #![tactic(auto)]
 
 #[cfg(test)]
 mod charges;
+mod examples;
 #[cfg(test)]
 mod judging;
 #[cfg(test)]
@@ -14,6 +15,7 @@ mod text;
 #[cfg(test)]
 mod writing;
 
+pub use examples::worked_examples;
 #[cfg(test)]
 use fault::Fault;
 

@@ -1,5 +1,5 @@
 // The crossings of all words of m - 1 letters.
-ghost use Rattle.std.specs.Prelude.{◌≡◌, ◌-◌, ◌^◌, ◌<◌, map, length};
+ghost use Rattle.std.specs.Prelude.{◌≡◌, ◌-◌, ◌^◌, ◌<◌, map, length, slice_index_or};
 ghost use Rattle.automaton.specs.Words.{word};
 ghost use Rattle.criterion.specs.Search.{padding, J, crossings};
 
@@ -35,6 +35,17 @@ fn crossing_at<C: Charge, L: Label<C>>(label: &L, v: usize) -> C
     ensures { C.kind.means result ≡ J C.kind padding (L.labels C.kind label.now) (word (L.labels C.kind label.now).q ((L.labels C.kind label.now).k - 1) v) }
 {
     fronts_sum(label, v).opposite()
+}
+
+// The crossing of the word of m - 1 letters with this code, and zero past the last code.
+pub fn crossing<C: Charge, L: Label<C>>(label: &L, code: usize) -> C
+    ensures { C.kind.means result ≡ slice_index_or (crossings C.kind padding (L.labels C.kind label.now)) code C.kind.group.zero }
+{
+    if code < head_count(label) {
+        crossing_at(label, code)
+    } else {
+        C::zero()
+    }
 }
 
 // Fills a strip of as many charges with the crossings.

@@ -7,6 +7,7 @@ mod label;
 mod search;
 mod shown;
 
+pub use crossings::crossing;
 pub use label::Label;
 pub use search::{Failure, examine};
 pub use shown::MOST_SHOWN;

@@ -75,6 +75,11 @@ letters L closes s = []
 abbrev pub checked : {A : Type 0} → ℕ → ℕ → Call → Strips A → Result (Unit {0}) Refusal
 checked q L call s = and_then (tested (tests L call s)) (λ _. each_fits (λ a. ltb a q) BadLetter 0 (letters L call s))
 
+-- x, unless a call is refused
+abbrev pub unless_refused : {X : Type 0} → Result (Unit {0}) Refusal → X → (Refusal → X) → X
+unless_refused (Ok t) x y = x
+unless_refused (Err f) x y = y f
+
 -- f i is added to each entry i
 abbrev pub booked : (G : Group) → (ℕ → G.Carrier) → List G.Carrier → List G.Carrier
 booked G f xs = table (length xs) (λ i. G.add (slice_index_or xs i G.zero) (f i))
@@ -164,11 +169,6 @@ module _ {C : Type 0} (K : Kind C) (r : Local) (d : Weights K.group.Carrier) whe
     };
   }
 
-  -- a refused call leaves all as it was
-  abbrev pub unless_refused : Result (Unit {0}) Refusal → Outcome K.group.Carrier → Strips K.group.Carrier → Outcome K.group.Carrier
-  unless_refused (Ok t) got s = got
-  unless_refused (Err f) got s = record { said = refused f; left = s }
-
-  -- a call on a ring of L cells, by the strips that it is handed
+  -- A call on a ring of L cells, by the strips that it is handed. A refused call leaves all as it was.
   abbrev pub outcome : ℕ → Call → Strips K.group.Carrier → Outcome K.group.Carrier
-  outcome L call s = unless_refused (checked r.q L call s) (worked L call s) s
+  outcome L call s = unless_refused (checked r.q L call s) (worked L call s) (λ f. record { said = refused f; left = s })

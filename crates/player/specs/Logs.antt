@@ -1,12 +1,11 @@
 -- Logs of a player's calls, the plain ring, and what holds on each line of a log without gaps. Assumes nothing.
-use Rattle.std.specs.Prelude.{◌≡◌, ℕ, ◌+◌, ◌≤◌, Bool, true, List, [], length, Ok, Err, Result, nat_le, nat_eq}
-use Rattle.fault.specs.Refusals.{Refusal}
+use Rattle.std.specs.Prelude.{◌≡◌, ℕ, ◌+◌, ◌≤◌, Bool, true, List, [], length, Ok, nat_le, nat_eq}
 use Rattle.charge.specs.Groups.{Group, Kind, minus, sum}
 use Rattle.automaton.specs.Words.{round}
 use Rattle.automaton.specs.Meanings.{Local, Weights, Lawful, Weighed}
 use Rattle.bench.specs.Laws.{KeepsTotal}
 use Rattle.bench.specs.Verdicts.{bench_checked}
-use Rattle.player.specs.Calls.{Call, Answer, Ring, Strips, Outcome, size, checked, front, charges, work, answer, outcome}
+use Rattle.player.specs.Calls.{Call, Answer, Ring, Strips, Outcome, size, checked, unless_refused, front, charges, work, answer, outcome}
 use Rattle.player.specs.Calls.Call.{opens, touches, steps, reads, closes}
 use Rattle.player.specs.Calls.Answer.{done, reading, refused}
 
@@ -89,10 +88,6 @@ arc G f a n = sum G (λ t. f (a + t)) n
 module _ {C : Type 0} (K : Kind C) (r : Local) (d : Weights K.group.Carrier) where
   -- The plain ring is fed calls and what they were handed, and no answers: it keeps cells, opening, crossed and
   -- touched of its own.
-  abbrev pub unless_refused : {X : Type 0} → Result (Unit {0}) Refusal → X → (Refusal → X) → X
-  unless_refused (Ok t) x y = x
-  unless_refused (Err f) x y = y f
-
   abbrev pub plain_answer : Ring K.group.Carrier → Call → Strips K.group.Carrier → Answer K.group.Carrier
   plain_answer p call handed = unless_refused (checked r.q (size call p) call handed) (answer K r d call p) refused
 

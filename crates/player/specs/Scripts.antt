@@ -1,9 +1,9 @@
 -- A script of calls, each handed all five strips as they stand. Assumes nothing.
-use Rattle.std.specs.Prelude.{ℕ, cond, List, [], ◌∷◌, ◌++◌, Some, None, Option, fold}
+use Rattle.std.specs.Prelude.{cond, List, [], ◌∷◌, ◌++◌, Some, None, Option, fold}
 use Rattle.charge.specs.Groups.{Kind}
 use Rattle.automaton.specs.Meanings.{Local, Weights}
 use Rattle.player.specs.Calls.{Call, Answer, Strips, Outcome, size, outcome}
-use Rattle.player.specs.Logs.{Log, Line, allowed, standing, WithoutGaps}
+use Rattle.player.specs.Logs.{Log, allowed, standing, WithoutGaps}
 use Rattle.player.specs.Logs.Log.{made, ◌then◌}
 
 -- what has been played: the log, the strips as they stand, and what was answered to each call, where a call that the

@@ -19,7 +19,7 @@ invariant_of-self g c =
     let w = c.in_ok-words.words in
     let counted = w.counted in
     let t = taken-letters w.q w.m c.args.word.now _ (sym c.in_ok-letters.ensures) in
-    let e = c.window_code-pattern.ensures ∙ ap (code w.q) (window-whole w.m _ t.0) in
+    let e = c.code_from-pattern.ensures ∙ ap (code w.q) (window-whole w.m _ t.0) in
     record { within = omega (arith, e, code_lt w.q w.m _ t, counted) }
 
 pub returns-clause-density : goal.returns-clause-density
@@ -30,5 +30,5 @@ returns-clause-density g c =
     let e = sym c.in_ok-letters.ensures in
     let t = taken-letters w.q w.m c.args.word.now _ e in
     ap (λ (pattern : ℕ). pattern_density K w.q w.m pattern c.args.charge)
-    (c.window_code-pattern.ensures ∙ ap (code w.q) (window-whole w.m _ t.0 ∙ (taken-front _ BadLetter _ c.args.word.now _ e).1))
+    (c.code_from-pattern.ensures ∙ ap (code w.q) (window-whole w.m _ t.0 ∙ (taken-front _ BadLetter _ c.args.word.now _ e).1))
     ∙ ap₂ (λ (q k : ℕ). pattern_density K q k (code q (take k c.args.word.now)) c.args.charge) made.1 made.2

@@ -1,7 +1,7 @@
 use Rattle.std.proofs.Common.{◌≡◌, ◌+◌, ◌-◌, ◌%◌, get_or, length, ap, ◌∙◌, arith}
 use Rattle.automaton.specs.Words.{code, window, cell}
 use Rattle.automaton.proofs.Windows.{code_more, code_times}
-use Rattle.automaton.proofs.ring.Ring.window_code.Goals as goal
+use Rattle.automaton.proofs.ring.Ring.code_from.Goals as goal
 
 pub overflow_mul-code : goal.overflow_mul-code
 overflow_mul-code c =

@@ -1,0 +1,25 @@
+use Rattle.std.proofs.Common.{◌≡◌, ℕ, length, map, get_or, ◌∙◌, arith}
+use Rattle.std.proofs.lemmas.List.{length-map}
+use Rattle.automaton.proofs.Rings.{length-table}
+use Rattle.player.specs.Calls.{booked}
+use Rattle.player.proofs.Books.{half-all, book_more}
+use Rattle.player.proofs.ledger.Ledger.book.Goals as goal
+
+pub loop-i-preserved : goal.loop-i-preserved
+loop-i-preserved g c =
+    let K = g.C.Charge.kind in
+    let old = map K.means c.args.self.now.sites.now in
+    let f = g.S.SiteCharges.charges K c.args.charges.now in (
+      book_more K.group K.means f old c.loop-i.self.sites.now c.add.new.self.sites.now c.loop-i.i c.charge_at.result
+          (omega (arith, length-map c.args.self.now.sites.now K.means)) c.charge_at.ensures c.add.ensures.sites c.loop-i.invariant.0,
+      c.add.ensures.same ∙ c.loop-i.invariant.1,
+    )
+
+pub returns-clause-sites : goal.returns-clause-sites
+returns-clause-sites g c =
+    let K = g.C.Charge.kind in
+    let old = map K.means c.args.self.now.sites.now in
+    let f = g.S.SiteCharges.charges K c.args.charges.now in
+    let size : length old ≡ length c.args.self.now.sites.now = length-map c.args.self.now.sites.now K.means in
+    half-all (booked K.group f old) old (map K.means c.loop-i.self.sites.now) c.loop-i.i
+    (length-table (length old) (λ (i : ℕ). K.group.add (get_or old i K.group.zero) (f i))) (omega (arith, size)) c.loop-i.invariant.0

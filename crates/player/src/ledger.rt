@@ -1,0 +1,82 @@
+// Ledgers: what a ring's strips of charges are read and written by.
+ghost use Rattle.std.specs.Prelude.{◌≡◌, map, length, slice_set, slice_index_or};
+ghost use Rattle.automaton.specs.Words.{table};
+ghost use Rattle.player.specs.Calls.{booked};
+
+use crate::sites::SiteCharges;
+use charge::Charge;
+
+// One charge a site, over a strip lent for writing.
+#[derive(Drop)]
+pub struct Ledger<'a, C> {
+    sites: &'a mut [C],
+}
+
+impl<'a, C: Charge> Ledger<'a, C> {
+    // The ledger of as many sites as the strip has charges.
+    pub fn new(sites: &'a mut [C]) -> Ledger<'a, C>
+        ensures sites { result.sites.now ≡ sites.old }
+        ensures same { result.sites.ghost_name ≡ sites.entry.ghost_name }
+    {
+        Ledger { sites }
+    }
+
+    // How many sites there are.
+    pub fn len(&mut self) -> usize
+        ensures answer { result ≡ length self.old.sites.now }
+        ensures kept { self.new ≡ self.old }
+    {
+        self.sites.len()
+    }
+
+    // The charge of site i, and zero past the last site.
+    pub fn at(&mut self, i: usize) -> C
+        ensures answer { C.kind.means result ≡ slice_index_or (map C.kind.means self.old.sites.now) i C.kind.group.zero }
+        ensures kept { self.new ≡ self.old }
+    {
+        if i < self.sites.len() {
+            self.sites[i]
+        } else {
+            C::zero()
+        }
+    }
+
+    // Writes the charge of site i. Past the last site nothing is written.
+    pub fn put(&mut self, i: usize, charge: C)
+        ensures sites { self.new.sites.now ≡ slice_set self.old.sites.now i charge }
+        ensures same { self.new.sites.ghost_name ≡ self.old.sites.ghost_name }
+    {
+        if i < self.sites.len() {
+            self.sites[i] = charge;
+        }
+    }
+
+    // Adds to the charge of site i.
+    pub fn add(&mut self, i: usize, charge: C)
+        ensures sites { map C.kind.means self.new.sites.now ≡ slice_set (map C.kind.means self.old.sites.now) i (C.kind.group.add (slice_index_or (map C.kind.means self.old.sites.now) i C.kind.group.zero) (C.kind.means charge)) }
+        ensures same { self.new.sites.ghost_name ≡ self.old.sites.ghost_name }
+    {
+        let sum = self.at(i).plus(charge);
+        self.put(i, sum);
+    }
+
+    // Writes each site's charge.
+    pub(crate) fn fill<S: SiteCharges<C>>(&mut self, charges: &S)
+        ensures sites { map C.kind.means self.new.sites.now ≡ table (length self.old.sites.now) (S.charges C.kind charges.now) }
+        ensures same { self.new.sites.ghost_name ≡ self.old.sites.ghost_name }
+    {
+        for i in 0..self.sites.len() {
+            self.put(i, charges.charge_at(i));
+        }
+    }
+
+    // Adds to each site's charge.
+    pub(crate) fn book<S: SiteCharges<C>>(&mut self, charges: &S)
+        ensures sites { map C.kind.means self.new.sites.now ≡ booked C.kind.group (S.charges C.kind charges.now) (map C.kind.means self.old.sites.now) }
+        ensures same { self.new.sites.ghost_name ≡ self.old.sites.ghost_name }
+    {
+        for i in 0..self.sites.len() {
+            self.add(i, charges.charge_at(i));
+        }
+    }
+}

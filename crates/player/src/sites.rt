@@ -1,0 +1,94 @@
+// The charges that a player writes and books, one a site.
+ghost use Rattle.std.specs.Prelude.{◌≡◌, ℕ};
+ghost use Rattle.charge.specs.Groups.{Kind};
+ghost use Rattle.player.specs.Calls.{charges, crossing_at};
+
+use automaton::{Density, Ring, Rule};
+use bench::Holding;
+use charge::Charge;
+
+// A charge for each site of a ring.
+pub(crate) trait SiteCharges<C: Charge> {
+    ghost charges: { (K : Kind C) → Self → ℕ → K.group.Carrier };
+
+    fn charge_at(&self, i: usize) -> C
+        ensures { C.kind.means result ≡ charges C.kind self.now i };
+}
+
+// Zero at every site.
+#[derive(Drop)]
+pub(crate) struct NoCharges;
+
+impl<C: Charge> SiteCharges<C> for NoCharges {
+    ghost charges = { λ K _ _. K.group.zero };
+
+    fn charge_at(&self, _i: usize) -> C {
+        C::zero()
+    }
+}
+
+// A ring that is played on a bench that holds.
+#[derive(Drop)]
+pub(crate) struct Sites<'b, 'r, C: Charge, R: Rule, D: Density<C>> {
+    pub bench: &'b Holding<C, R, D>,
+    pub ring: Ring<'r>,
+    pub ghost alphabet: { ring.q ≡ (R.meaning bench.now.parts.rule).q },
+}
+
+impl<C: Charge, R: Rule, D: Density<C>> Sites<'_, '_, C, R, D> {
+    // The charge of site i.
+    fn charge(&self, i: usize) -> C
+        ensures { C.kind.means result ≡ charges C.kind (R.meaning self.now.bench.now.parts.rule) (D.weights C.kind self.now.bench.now.parts.density) self.now.ring.cells.now i }
+    {
+        self.ring.site_charge(self.bench.density(), i)
+    }
+
+    // What crosses into site i in a step.
+    fn crossing(&self, i: usize) -> C
+        ensures { C.kind.means result ≡ crossing_at C.kind (R.meaning self.now.bench.now.parts.rule) (D.weights C.kind self.now.bench.now.parts.density) self.now.ring.cells.now i }
+    {
+        self.bench.crossing_at(self.ring, i)
+    }
+}
+
+// The charge of each site.
+#[derive(Drop)]
+pub(crate) struct Charges<'a, S> {
+    pub sites: &'a S,
+}
+
+impl<C: Charge, R: Rule, D: Density<C>> SiteCharges<C> for Charges<'_, Sites<'_, '_, C, R, D>> {
+    ghost charges = { λ K s i. charges K (R.meaning s.sites.now.bench.now.parts.rule) (D.weights K s.sites.now.bench.now.parts.density) s.sites.now.ring.cells.now i };
+
+    fn charge_at(&self, i: usize) -> C {
+        self.sites.charge(i)
+    }
+}
+
+// The opposite of each site's charge.
+#[derive(Drop)]
+pub(crate) struct Opposites<'a, S> {
+    pub sites: &'a S,
+}
+
+impl<C: Charge, R: Rule, D: Density<C>> SiteCharges<C> for Opposites<'_, Sites<'_, '_, C, R, D>> {
+    ghost charges = { λ K s i. K.group.neg (charges K (R.meaning s.sites.now.bench.now.parts.rule) (D.weights K s.sites.now.bench.now.parts.density) s.sites.now.ring.cells.now i) };
+
+    fn charge_at(&self, i: usize) -> C {
+        self.sites.charge(i).opposite()
+    }
+}
+
+// What crosses into each site in a step.
+#[derive(Drop)]
+pub(crate) struct Crossings<'a, S> {
+    pub sites: &'a S,
+}
+
+impl<C: Charge, R: Rule, D: Density<C>> SiteCharges<C> for Crossings<'_, Sites<'_, '_, C, R, D>> {
+    ghost charges = { λ K s i. crossing_at K (R.meaning s.sites.now.bench.now.parts.rule) (D.weights K s.sites.now.bench.now.parts.density) s.sites.now.ring.cells.now i };
+
+    fn charge_at(&self, i: usize) -> C {
+        self.sites.crossing(i)
+    }
+}
