@@ -1,10 +1,11 @@
 -- Charges that are written and booked one site after another. Assumes nothing.
-use Rattle.std.proofs.Common.{◌≡◌, ℕ, ◌+◌, ◌-◌, ◌<◌, ◌≤◌, List, ◌++◌, map, length, get_or, take, drop, set, sym, ap, ◌∙◌, ap₂, add-zero, arith}
-use Rattle.std.proofs.lemmas.List.{map-set, length-map, length-take-le, get_or-drop, get_or-append_right, drop_all, take_all, append-nil}
-use Rattle.charge.specs.Groups.{Group}
+use Rattle.std.proofs.Common.{◌≡◌, ℕ, ◌+◌, ◌-◌, ◌<◌, ◌≤◌, List, ◌++◌, map, length, get_or, take, drop, set, sym, ap, ◌∙◌, subst, ap₂, arith}
+use Rattle.std.proofs.lemmas.List.{map-set, map-append, drop-map, take-append-drop, take_at, drop_at, length-map, length-take-le, get_or-drop, get_or-append_right, drop_all, take_all, append-nil}
+use Rattle.charge.specs.Groups.{Group, Kind}
 use Rattle.automaton.specs.Words.{table}
 use Rattle.automaton.proofs.Rings.{length-table, get_or-table}
 use Rattle.automaton.proofs.Windows.{front_more}
+use Rattle.criterion.specs.Strips.{FrontMeans}
 use Rattle.player.specs.Calls.{booked}
 
 -- after i sites the strip has i entries of what it will have at last, and the others as they were
@@ -49,3 +50,23 @@ module _ {C : Type 0} (G : Group) (means : C → G.Carrier) (f : ℕ → G.Carri
       written
       ∙ front_more (booked G f old) old (map means strip) i G.zero _ (omega (arith, size)) h
       (ap₂ G.add (half-rest (booked G f old) old (map means strip) G.zero i size h e) is ∙ sym (get_or-table (length old) sum G.zero i h)) e
+
+-- a part that is laid over the front of a strip
+pub front-part : {C : Type 0} (K : Kind C) (xs : List K.group.Carrier) (n : ℕ) (part old : List C) → map K.means part ≡ xs → length xs ≡ n →
+    FrontMeans K xs old (part ++ drop n old)
+front-part K xs n part old e size =
+    let whole : length part ≡ length xs = sym (length-map part K.means) ∙ ap length e in (
+      ap (map K.means) (take_at part (drop n old) (length xs) whole) ∙ e,
+      drop_at part (drop n old) (length xs) whole ∙ ap (λ k. drop k old) (sym size),
+    )
+
+-- a strip with xs at its front, by what its charges mean
+pub front-means : {C : Type 0} (K : Kind C) (xs : List K.group.Carrier) (n : ℕ) (old new : List C) → FrontMeans K xs old new → length xs ≡ n →
+    map K.means new ≡ xs ++ drop n (map K.means old)
+front-means K xs n old new (front, rest) size =
+    ap (map K.means) (sym (take-append-drop (length xs) new))
+    ∙ map-append K.means (take (length xs) new) (drop (length xs) new)
+    ∙ ap₂ ◌++◌ front (ap (map K.means) rest ∙ sym (drop-map K.means (length xs) old) ∙ ap (λ k. drop k (map K.means old)) size)
+
+pub front-past : {C : Type 0} (K : Kind C) (xs : List K.group.Carrier) (n : ℕ) (old new : List C) → FrontMeans K xs old new → length xs ≡ n → drop n new ≡ drop n old
+front-past K xs n old new fronts size = subst (λ k. drop k new ≡ drop k old) size fronts.1

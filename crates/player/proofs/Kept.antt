@@ -15,7 +15,7 @@ use Rattle.player.specs.Calls.{Ring, booked, charges, crossing_at, opened, put, 
 use Rattle.player.specs.Logs.{arc, ArcsAgree}
 use Rattle.player.proofs.Moves.{add_from-minus, balance, site_moves}
 
-letters_set : (q : ℕ) (c : List ℕ) (i a : ℕ) → a < q → Letters q c → Letters q (set c i a)
+pub letters_set : (q : ℕ) (c : List ℕ) (i a : ℕ) → a < q → Letters q c → Letters q (set c i a)
 letters_set q [] i a small below j h = below j h
 letters_set q (x ∷ c) zero a small below zero h = small
 letters_set q (x ∷ c) zero a small below (suc j) h = below (suc j) h

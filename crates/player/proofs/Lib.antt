@@ -1,5 +1,10 @@
 pub mod Books
 pub mod Crossings
+pub mod Passed
+pub mod Promises
+pub mod Opens
+pub mod Touches
+pub mod Stepped
 pub mod Moves
 pub mod Kept
 pub mod Logs

@@ -95,12 +95,12 @@ place_tells i L = tells (nat_lt i L) (L ≤ i) (λ e h. grind (arith, nat_tests)
 two_tell : (L a b : ℕ) → Tells (nat_le L (min a b)) ((a < L) ⊎ (b < L))
 two_tell L a b = tells (nat_le L (min a b)) ((a < L) ⊎ (b < L)) (λ e h. grind (arith, nat_tests)) (λ e. grind (arith, nat_tests))
 
-three_tell : (L a b c : ℕ) → Tells (nat_le L (min a (min b c))) ((a < L) ⊎ ((b < L) ⊎ (c < L)))
-three_tell L a b c = tells (nat_le L (min a (min b c))) ((a < L) ⊎ ((b < L) ⊎ (c < L))) (λ e h. grind (arith, nat_tests)) (λ e. grind (arith, nat_tests))
+three_tell : (L a b c : ℕ) → Tells (nat_le L (min (min a b) c)) ((a < L) ⊎ ((b < L) ⊎ (c < L)))
+three_tell L a b c = tells (nat_le L (min (min a b) c)) ((a < L) ⊎ ((b < L) ⊎ (c < L))) (λ e h. grind (arith, nat_tests)) (λ e. grind (arith, nat_tests))
 
-four_tell : (L a b c d : ℕ) → Tells (nat_le L (min a (min b (min c d)))) ((a < L) ⊎ ((b < L) ⊎ ((c < L) ⊎ (d < L))))
+four_tell : (L a b c d : ℕ) → Tells (nat_le L (min (min (min a b) c) d)) ((a < L) ⊎ ((b < L) ⊎ ((c < L) ⊎ (d < L))))
 four_tell L a b c d =
-    tells (nat_le L (min a (min b (min c d)))) ((a < L) ⊎ ((b < L) ⊎ ((c < L) ⊎ (d < L)))) (λ e h. grind (arith, nat_tests)) (λ e. grind (arith, nat_tests))
+    tells (nat_le L (min (min (min a b) c) d)) ((a < L) ⊎ ((b < L) ⊎ ((c < L) ⊎ (d < L)))) (λ e h. grind (arith, nat_tests)) (λ e. grind (arith, nat_tests))
 
 pub refusals_fit : {C : Type 0} (K : Kind C) → RefusalsFit K
 refusals_fit K q L (opens ring) s =

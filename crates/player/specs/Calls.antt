@@ -53,12 +53,12 @@ size closes p = length p.cells
 abbrev pub tests : {A : Type 0} → ℕ → Call → Strips A → List (Bool × Stop)
 tests L (opens ring) s =
     (within 1 (suc most_cells) L, BadLength)
-    ∷ (nat_le L (min (length s.cells) (min (length s.opening) (min (length s.crossed) (length s.touched)))), ShortStrip)
+    ∷ (nat_le L (min (min (min (length s.cells) (length s.opening)) (length s.crossed)) (length s.touched)), ShortStrip)
     ∷ []
 tests L (touches i a) s = (nat_le L (min (length s.cells) (length s.touched)), ShortStrip) ∷ (nat_lt i L, BadPosition) ∷ []
-tests L steps s = (nat_le L (min (length s.cells) (min (length s.spare) (length s.crossed))), ShortStrip) ∷ []
+tests L steps s = (nat_le L (min (min (length s.cells) (length s.spare)) (length s.crossed)), ShortStrip) ∷ []
 tests L (reads i) s =
-    (nat_le L (min (length s.cells) (min (length s.opening) (min (length s.crossed) (length s.touched)))), ShortStrip)
+    (nat_le L (min (min (min (length s.cells) (length s.opening)) (length s.crossed)) (length s.touched)), ShortStrip)
     ∷ (nat_lt i L, BadPosition)
     ∷ []
 tests L closes s = []

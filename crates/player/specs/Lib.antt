@@ -1,4 +1,5 @@
 pub mod Calls
 pub mod Logs
 pub mod Laws
+pub mod Promises
 pub mod Scripts

@@ -1,6 +1,7 @@
 // Ledgers: what a ring's strips of charges are read and written by.
-ghost use Rattle.std.specs.Prelude.{◌≡◌, map, length, slice_set, slice_index_or};
+ghost use Rattle.std.specs.Prelude.{◌≡◌, ◌≤◌, map, length, take, slice_set, slice_index_or};
 ghost use Rattle.automaton.specs.Words.{table};
+ghost use Rattle.criterion.specs.Strips.{FrontMeans};
 ghost use Rattle.player.specs.Calls.{booked};
 
 use crate::sites::SiteCharges;
@@ -79,4 +80,42 @@ impl<'a, C: Charge> Ledger<'a, C> {
             self.add(i, charges.charge_at(i));
         }
     }
+}
+
+// Writes each site's charge.
+fn fill_strip<C: Charge, S: SiteCharges<C>>(strip: &mut [C], charges: &S)
+    ensures { map C.kind.means strip.new ≡ table (length strip.old) (S.charges C.kind charges.now) }
+{
+    Ledger::new(strip).fill(charges);
+}
+
+// Adds to each site's charge.
+fn book_strip<C: Charge, S: SiteCharges<C>>(strip: &mut [C], charges: &S)
+    ensures { map C.kind.means strip.new ≡ booked C.kind.group (S.charges C.kind charges.now) (map C.kind.means strip.old) }
+{
+    Ledger::new(strip).book(charges);
+}
+
+// The charge of site i, and zero past the last site.
+pub(crate) fn read_strip<C: Charge>(strip: &mut [C], i: usize) -> C
+    ensures answer { C.kind.means result ≡ slice_index_or (map C.kind.means strip.old) i C.kind.group.zero }
+    ensures kept { strip.new ≡ strip.old }
+{
+    Ledger::new(strip).at(i)
+}
+
+// Writes the charges of the first `len` sites.
+pub(crate) fn fill_front<C: Charge, S: SiteCharges<C>>(len: usize, strip: &mut [C], charges: &S)
+    requires { len ≤ length strip.old }
+    ensures { FrontMeans C.kind (table len (S.charges C.kind charges.now)) strip.old strip.new }
+{
+    fill_strip(&mut strip[..len], charges);
+}
+
+// Adds to the charges of the first `len` sites.
+pub(crate) fn book_front<C: Charge, S: SiteCharges<C>>(len: usize, strip: &mut [C], charges: &S)
+    requires { len ≤ length strip.old }
+    ensures { FrontMeans C.kind (booked C.kind.group (S.charges C.kind charges.now) (take len (map C.kind.means strip.old))) strip.old strip.new }
+{
+    book_strip(&mut strip[..len], charges);
 }

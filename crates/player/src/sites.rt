@@ -37,7 +37,7 @@ pub(crate) struct Sites<'b, 'r, C: Charge, R: Rule, D: Density<C>> {
 
 impl<C: Charge, R: Rule, D: Density<C>> Sites<'_, '_, C, R, D> {
     // The charge of site i.
-    fn charge(&self, i: usize) -> C
+    pub(crate) fn charge(&self, i: usize) -> C
         ensures { C.kind.means result ≡ charges C.kind (R.meaning self.now.bench.now.parts.rule) (D.weights C.kind self.now.bench.now.parts.density) self.now.ring.cells.now i }
     {
         self.ring.site_charge(self.bench.density(), i)

@@ -1,0 +1,48 @@
+use Rattle.std.proofs.Common.{ℕ, List, [], map, take, set, length, ◌≤◌, sym, ◌∙◌, subst, arith}
+use Rattle.std.proofs.lemmas.List.{length-map}
+use Rattle.std.proofs.Math.Seq.{take-set-lt}
+use Rattle.automaton.specs.Words.{Letters}
+use Rattle.automaton.specs.Meanings.{Local, Weights}
+use Rattle.criterion.specs.Strips.{FrontMeans}
+use Rattle.player.specs.Calls.{booked, charges}
+use Rattle.player.specs.Calls.Call.{touches}
+use Rattle.player.specs.Promises.{strips}
+use Rattle.player.proofs.Passed.{letters_passed, front_below, last_below, touches_fit}
+use Rattle.player.proofs.Kept.{letters_set}
+use Rattle.player.proofs.Touches.{front-twice}
+use Rattle.player.proofs.playing.Playing.touch_on.Goals as goal
+
+pub sites-requires-clause-letters : goal.sites-requires-clause-letters
+sites-requires-clause-letters g c =
+    let K = g.C.Charge.kind in
+    let a = c.args in
+    let q = (g.R.Rule.meaning a.self.now.bench.parts.rule).q in
+    front_below q (take a.self.now.len a.cells.now) _ (letters_passed q a.self.now.len (touches a.site a.letter) (strips K a.cells.now [] [] [] a.touched.now) c.requires)
+
+pub sites-requires-2-clause-letters : goal.sites-requires-2-clause-letters
+sites-requires-2-clause-letters g c =
+    let K = g.C.Charge.kind in
+    let a = c.args in
+    let q = (g.R.Rule.meaning a.self.now.bench.parts.rule).q in
+    let handed = strips K a.cells.now [] [] [] a.touched.now in
+    let below = letters_passed q a.self.now.len (touches a.site a.letter) handed c.requires in
+    let fit = touches_fit q a.self.now.len a.site a.letter handed c.requires in
+    subst (Letters q) (sym (take-set-lt a.self.now.len a.cells.now a.site a.letter fit.2))
+    (letters_set q (take a.self.now.len a.cells.now) a.site a.letter (last_below q (take a.self.now.len a.cells.now) a.letter below) (front_below q (take a.self.now.len a.cells.now) _ below))
+
+pub returns-clause-touched : goal.returns-clause-touched
+returns-clause-touched g c =
+    let K = g.C.Charge.kind in
+    let a = c.args in
+    let L = a.self.now.len in
+    let at : Local × Weights K.group.Carrier × List ℕ → ℕ → K.group.Carrier = λ x. charges K x.0 x.1 x.2 in
+    let r = g.R.Rule.meaning a.self.now.bench.parts.rule in
+    let d = g.D.Density.weights K a.self.now.bench.parts.density in
+    let fit = touches_fit r.q L a.site a.letter (strips K a.cells.now [] [] [] a.touched.now) c.requires in
+    let made = c.sites.ensures in
+    let made-2 = c.sites-2.ensures in
+    front-twice K (charges K r d (take L a.cells.now)) (charges K r d (set (take L a.cells.now) a.site a.letter)) L a.touched.now c.book_front.new.strip c.book_front-2.new.strip (omega (arith, fit.1, length-map a.touched.now K.means))
+    (subst (λ x. FrontMeans K (booked K.group (λ i. K.group.neg (at x i)) (take L (map K.means a.touched.now))) a.touched.now c.book_front.new.strip)
+    (λ j. (g.R.Rule.meaning (made.bench j).parts.rule, g.D.Density.weights K (made.bench j).parts.density, made.ring j)) c.book_front.ensures)
+    (subst (λ x. FrontMeans K (booked K.group (at x) (take L (map K.means c.book_front.new.strip))) c.book_front.new.strip c.book_front-2.new.strip)
+    (λ j. (g.R.Rule.meaning (made-2.bench j).parts.rule, g.D.Density.weights K (made-2.bench j).parts.density, (made-2.ring ∙ take-set-lt L a.cells.now a.site a.letter fit.2) j)) c.book_front-2.ensures)

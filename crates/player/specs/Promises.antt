@@ -1,0 +1,47 @@
+-- What each call promises, of the strips that it is handed. Assumes nothing.
+use Rattle.std.specs.Prelude.{◌≡◌, ℕ, List, map, drop, Ok, Err, Result}
+use Rattle.fault.specs.declared.Fault.{Fault}
+use Rattle.fault.specs.Refusals.{refusal}
+use Rattle.charge.specs.Groups.{Kind}
+use Rattle.automaton.specs.Meanings.{Local, Weights}
+use Rattle.bench.specs.declared.state.Refused.{Refused}
+use Rattle.player.specs.declared.meters.Reading.{Reading}
+use Rattle.player.specs.Calls.{Call, Answer, Strips, Outcome, outcome}
+use Rattle.player.specs.Calls.Answer.{done, reading, refused}
+
+module _ {C : Type 0} (K : Kind C) where
+  -- strips by what their charges mean
+  abbrev pub strips : List ℕ → List ℕ → List C → List C → List C → Strips K.group.Carrier
+  strips cells spare opening crossed touched = record {
+    cells = cells;
+    spare = spare;
+    opening = map K.means opening;
+    crossed = map K.means crossed;
+    touched = map K.means touched;
+  }
+
+  -- a reading by what its charges mean
+  abbrev pub reading_means : Reading C → Answer K.group.Carrier
+  reading_means m = reading (K.means m.opening) (K.means m.crossed) (K.means m.touched) (K.means m.now)
+
+  -- what the calls answer
+  abbrev pub read_said : Result (Reading C) Fault → Answer K.group.Carrier
+  read_said (Ok m) = reading_means m
+  read_said (Err f) = refused (refusal f)
+
+  abbrev pub done_said : Result (Unit {0}) Fault → Answer K.group.Carrier
+  done_said (Ok t) = done
+  done_said (Err f) = refused (refusal f)
+
+  abbrev pub open_said : {P S : Type 0} → Result P (Refused S) → Answer K.group.Carrier
+  open_said (Ok p) = done
+  open_said (Err e) = refused (refusal e.fault)
+
+  -- a call on a ring of L cells answers and leaves the strips as it is defined to
+  abbrev pub Does : Local → Weights K.group.Carrier → ℕ → Call → Strips K.group.Carrier → Answer K.group.Carrier → Strips K.group.Carrier → Type 0
+  Does r d L call handed said left = outcome K r d L call handed ≡ record { said = said; left = left }
+
+-- the charges past the first n stay, and after a refusal all do
+abbrev pub Stays : {X Y F : Type 0} → Result Y F → ℕ → List X → List X → Type 0
+Stays (Ok y) n old new = drop n new ≡ drop n old
+Stays (Err f) n old new = new ≡ old

@@ -1,0 +1,89 @@
+// Opening a ring on a bench that holds.
+ghost use Rattle.std.specs.Prelude.{◌≡◌, ◌≤◌, [], length, Ok, Err, MatchResult};
+ghost use Rattle.fault.specs.Answers.{front};
+ghost use Rattle.fault.specs.Refusals.{refusal};
+ghost use Rattle.automaton.specs.Words.{table};
+ghost use Rattle.criterion.specs.Strips.{FrontMeans};
+ghost use Rattle.player.specs.Calls.{charges, checked};
+ghost use Rattle.player.specs.Calls.Call.{opens};
+ghost use Rattle.player.specs.Promises.{strips, open_said, Does, Stays};
+
+use crate::ledger::{book_front, fill_front};
+use crate::playing::Playing;
+use crate::sites::{Charges, NoCharges, Sites};
+use automaton::{Density, Ring, Rule};
+use bench::{Holding, Refused};
+use charge::Charge;
+use fault::Fault;
+
+// The ring that open is given, or the refusal by the strips that it is handed.
+fn check_open<'r, C: Charge, R: Rule, D: Density<C>>(
+    bench: &Holding<C, R, D>,
+    ring: &'r [u8],
+    cells: &[u8],
+    opening: &[C],
+    crossed: &[C],
+    touched: &[C],
+) -> Result<Ring<'r>, Fault>
+    ensures { MatchResult result (λ r. (checked (R.meaning bench.now.parts.rule).q (length ring.now) (opens ring.now) (strips C.kind cells.now [] opening.now crossed.now touched.now) ≡ Ok tt) × (r.cells.now ≡ ring.now) × (r.q ≡ (R.meaning bench.now.parts.rule).q)) (λ f. checked (R.meaning bench.now.parts.rule).q (length ring.now) (opens ring.now) (strips C.kind cells.now [] opening.now crossed.now touched.now) ≡ Err (refusal f)) }
+{
+    let room = cells
+        .len()
+        .min(opening.len())
+        .min(crossed.len())
+        .min(touched.len());
+    Ring::under(bench.rule(), room, ring)
+}
+
+// Copies a ring to the cells, and opens the meters of its sites.
+fn open_on<C: Charge, R: Rule, D: Density<C>>(
+    sites: &Sites<'_, '_, C, R, D>,
+    cells: &mut [u8],
+    opening: &mut [C],
+    crossed: &mut [C],
+    touched: &mut [C],
+)
+    requires room { (length sites.now.ring.cells.now ≤ length cells.old) × (length sites.now.ring.cells.now ≤ length opening.old) × (length sites.now.ring.cells.now ≤ length crossed.old) × (length sites.now.ring.cells.now ≤ length touched.old) }
+    ensures cells { cells.new ≡ front sites.now.ring.cells.now cells.old }
+    ensures opening { FrontMeans C.kind (table (length sites.now.ring.cells.now) (charges C.kind (R.meaning sites.now.bench.now.parts.rule) (D.weights C.kind sites.now.bench.now.parts.density) sites.now.ring.cells.now)) opening.old opening.new }
+    ensures crossed { FrontMeans C.kind (table (length sites.now.ring.cells.now) (λ _. C.kind.group.zero)) crossed.old crossed.new }
+    ensures touched { FrontMeans C.kind (table (length sites.now.ring.cells.now) (λ _. C.kind.group.zero)) touched.old touched.new }
+{
+    let ring = sites.ring.cells;
+    cells[..ring.len()].copy_from_slice(ring);
+    fill_front(ring.len(), opening, &Charges { sites });
+    fill_front(ring.len(), crossed, &NoCharges);
+    fill_front(ring.len(), touched, &NoCharges);
+}
+
+impl<C: Charge, R: Rule, D: Density<C>> Playing<C, R, D> {
+    // Copies a ring to the cells, writes each site's charge to opening, and sets crossed and touched to zero.
+    pub fn open(
+        bench: Holding<C, R, D>,
+        ring: &[u8],
+        cells: &mut [u8],
+        opening: &mut [C],
+        crossed: &mut [C],
+        touched: &mut [C],
+    ) -> Result<Playing<C, R, D>, Refused<Holding<C, R, D>>>
+        ensures promise { Does C.kind (R.meaning bench.parts.rule) (D.weights C.kind bench.parts.density) (length ring.now) (opens ring.now) (strips C.kind cells.old [] opening.old crossed.old touched.old) (open_said C.kind result) (strips C.kind cells.new [] opening.new crossed.new touched.new) }
+        ensures past { Stays result (length ring.now) opening.old opening.new × Stays result (length ring.now) crossed.old crossed.new × Stays result (length ring.now) touched.old touched.new }
+        ensures bench { MatchResult result (λ playing. (playing.bench ≡ bench) × (playing.len ≡ length ring.now)) (λ refused. refused.state ≡ bench) }
+    {
+        match check_open(&bench, ring, cells, opening, crossed, touched) {
+            Ok(ring) => {
+                let len = ring.cells.len();
+                let sites = Sites {
+                    bench: &bench,
+                    ring,
+                };
+                open_on(&sites, cells, opening, crossed, touched);
+                Ok(Playing { bench, len })
+            }
+            Err(fault) => Err(Refused {
+                state: bench,
+                fault,
+            }),
+        }
+    }
+}

@@ -1,0 +1,58 @@
+// Reading the meters of a site of the open ring.
+ghost use Rattle.std.specs.Prelude.{◌≡◌, []};
+ghost use Rattle.fault.specs.Answers.{plainly};
+ghost use Rattle.player.specs.Calls.{checked};
+ghost use Rattle.player.specs.Calls.Call.{reads};
+ghost use Rattle.player.specs.Promises.{strips, read_said, Does};
+
+use crate::ledger::read_strip;
+use crate::meters::Reading;
+use crate::playing::Playing;
+use automaton::{Density, Rule};
+use charge::Charge;
+use fault::{Fault, Stop};
+
+impl<C: Charge, R: Rule, D: Density<C>> Playing<C, R, D> {
+    // The refusal of a read, by the strips that it is handed.
+    fn check_read(
+        &self,
+        site: usize,
+        cells: &[u8],
+        opening: &[C],
+        crossed: &[C],
+        touched: &[C],
+    ) -> Result<(), Fault>
+        ensures { plainly result ≡ checked (R.meaning self.now.bench.parts.rule).q self.now.len (reads site) (strips C.kind cells.now [] opening.now crossed.now touched.now) }
+    {
+        let room = cells
+            .len()
+            .min(opening.len())
+            .min(crossed.len())
+            .min(touched.len());
+        Stop::ShortStrip.unless(self.len <= room)?;
+        Stop::BadPosition.unless(site < self.len)?;
+        self.check_letters(cells)
+    }
+
+    // A site's opening, crossed and touched charges, and its charge now. Nothing is written: the strips of charges are
+    // taken for writing, as ledgers take them.
+    pub fn read(
+        &self,
+        site: usize,
+        cells: &[u8],
+        opening: &mut [C],
+        crossed: &mut [C],
+        touched: &mut [C],
+    ) -> Result<Reading<C>, Fault>
+        ensures promise { Does C.kind (R.meaning self.now.bench.parts.rule) (D.weights C.kind self.now.bench.parts.density) self.now.len (reads site) (strips C.kind cells.now [] opening.old crossed.old touched.old) (read_said C.kind result) (strips C.kind cells.now [] opening.new crossed.new touched.new) }
+        ensures kept { (opening.new ≡ opening.old) × (crossed.new ≡ crossed.old) × (touched.new ≡ touched.old) }
+    {
+        self.check_read(site, cells, opening, crossed, touched)?;
+        Ok(Reading {
+            opening: read_strip(opening, site),
+            crossed: read_strip(crossed, site),
+            touched: read_strip(touched, site),
+            now: self.sites(cells).charge(site),
+        })
+    }
+}

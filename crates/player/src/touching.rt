@@ -1,0 +1,84 @@
+// Putting a letter into a cell of the open ring.
+ghost use Rattle.std.specs.Prelude.{◌≡◌, [], map, take, Ok, Err, if◌then◌else◌, nat_lt, slice_set};
+ghost use Rattle.fault.specs.declared.Stop.TheVariants.{BadLetter};
+ghost use Rattle.fault.specs.Answers.{plainly};
+ghost use Rattle.fault.specs.Refusals.{refused_at};
+ghost use Rattle.charge.specs.Groups.{minus};
+ghost use Rattle.criterion.specs.Strips.{FrontMeans};
+ghost use Rattle.player.specs.Calls.{charges, booked, checked};
+ghost use Rattle.player.specs.Calls.Call.{touches};
+ghost use Rattle.player.specs.Promises.{strips, done_said, Does, Stays};
+
+use crate::ledger::book_front;
+use crate::playing::Playing;
+use crate::sites::{Charges, Opposites};
+use automaton::{Density, Rule};
+use charge::Charge;
+use fault::{Fault, Stop};
+
+impl<C: Charge, R: Rule, D: Density<C>> Playing<C, R, D> {
+    // The refusal of a touch by its letter, which comes after those of the cells.
+    fn check_letter(&self, letter: u8) -> Result<(), Fault>
+        ensures { plainly result ≡ (if nat_lt letter (R.meaning self.now.bench.parts.rule).q then Ok tt else Err (refused_at BadLetter self.now.len)) }
+    {
+        if (letter as usize) < self.q() {
+            Ok(())
+        } else {
+            Err(Stop::BadLetter.at(self.len))
+        }
+    }
+
+    // The refusal of a touch, by the strips that it is handed.
+    fn check_touch(
+        &self,
+        site: usize,
+        letter: u8,
+        cells: &[u8],
+        touched: &[C],
+    ) -> Result<(), Fault>
+        ensures { plainly result ≡ checked (R.meaning self.now.bench.parts.rule).q self.now.len (touches site letter) (strips C.kind cells.now [] [] [] touched.now) }
+    {
+        Stop::ShortStrip.unless(self.len <= cells.len().min(touched.len()))?;
+        Stop::BadPosition.unless(site < self.len)?;
+        self.check_letters(cells).and(self.check_letter(letter))
+    }
+
+    // Puts the letter into the cell, and books at each site its charge afterwards less its charge before.
+    fn touch_on(&self, site: usize, letter: u8, cells: &mut [u8], touched: &mut [C])
+        requires { checked (R.meaning self.now.bench.parts.rule).q self.now.len (touches site letter) (strips C.kind cells.old [] [] [] touched.old) ≡ Ok tt }
+        ensures cells { cells.new ≡ slice_set cells.old site letter }
+        ensures touched { FrontMeans C.kind (booked C.kind.group (λ j. minus C.kind.group (charges C.kind (R.meaning self.now.bench.parts.rule) (D.weights C.kind self.now.bench.parts.density) (slice_set (take self.now.len cells.old) site letter) j) (charges C.kind (R.meaning self.now.bench.parts.rule) (D.weights C.kind self.now.bench.parts.density) (take self.now.len cells.old) j)) (take self.now.len (map C.kind.means touched.old))) touched.old touched.new }
+    {
+        book_front(
+            self.len,
+            touched,
+            &Opposites {
+                sites: &self.sites(cells),
+            },
+        );
+        cells[site] = letter;
+        book_front(
+            self.len,
+            touched,
+            &Charges {
+                sites: &self.sites(cells),
+            },
+        );
+    }
+
+    // Puts a letter into a cell. At each site it adds to touched the site's charge afterwards less its charge before.
+    pub fn touch(
+        &self,
+        site: usize,
+        letter: u8,
+        cells: &mut [u8],
+        touched: &mut [C],
+    ) -> Result<(), Fault>
+        ensures promise { Does C.kind (R.meaning self.now.bench.parts.rule) (D.weights C.kind self.now.bench.parts.density) self.now.len (touches site letter) (strips C.kind cells.old [] [] [] touched.old) (done_said C.kind result) (strips C.kind cells.new [] [] [] touched.new) }
+        ensures past { Stays result self.now.len touched.old touched.new }
+    {
+        self.check_touch(site, letter, cells, touched)?;
+        self.touch_on(site, letter, cells, touched);
+        Ok(())
+    }
+}
