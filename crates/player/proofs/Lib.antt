@@ -11,3 +11,4 @@ pub mod Logs
 pub mod Refusals
 pub mod Steps
 pub mod Scripts
+pub mod Wide

@@ -51,11 +51,11 @@ module _ {C : Type 0} (K : Kind C) (r : Local) (d : Weights K.group.Carrier) (la
   Shown p call s w got =
       let after : Ring K.group.Carrier = unless_refused w (ended call (work K r d call p)) (λ _. p) in
       (got.said ≡ unless_refused w (answer K r d call p) refused)
-      × (accepted got.said (ended call (used call (front (size call p) got.left) p)) p ≡ after)
+      × (accepted got.said (ended call (used call (front (size call (length p.cells)) got.left) p)) p ≡ after)
       × Sound after
 
   abbrev WorkShown : Ring K.group.Carrier → Call → Strips K.group.Carrier → Type 0
-  WorkShown p call s = Shown p call s (Ok tt) (worked K r d (size call p) call s)
+  WorkShown p call s = Shown p call s (Ok tt) (worked K r d (size call (length p.cells)) call s)
 
   opens_shown : (p : Ring K.group.Carrier) (ring : List ℕ) (s : Strips K.group.Carrier) → checked r.q (length ring) (opens ring) s ≡ Ok tt →
       WorkShown p (opens ring) s
@@ -123,8 +123,8 @@ module _ {C : Type 0} (K : Kind C) (r : Local) (d : Weights K.group.Carrier) (la
         sound,
       )
 
-  work_shown : (p : Ring K.group.Carrier) → Sound p → (call : Call) (s : Strips K.group.Carrier) → allowed call p ≡ true →
-      checked r.q (size call p) call s ≡ Ok tt → (Accepted (worked K r d (size call p) call s).said → HandedOn call s p) → WorkShown p call s
+  work_shown : (p : Ring K.group.Carrier) → Sound p → (call : Call) (s : Strips K.group.Carrier) → allowed call (length p.cells) ≡ true →
+      checked r.q (size call (length p.cells)) call s ≡ Ok tt → (Accepted (worked K r d (size call (length p.cells)) call s).said → HandedOn call s p) → WorkShown p call s
   work_shown p sound (opens ring) s order e on = opens_shown p ring s e
   work_shown p sound (touches i a) s order e on = touches_shown p sound (leb-true 1 (length p.cells) order) i a s (on tt) e
   work_shown p sound steps s order e on = steps_shown p sound (leb-true 1 (length p.cells) order) s (on tt)
@@ -132,8 +132,8 @@ module _ {C : Type 0} (K : Kind C) (r : Local) (d : Weights K.group.Carrier) (la
   work_shown p sound closes s order e on = (refl, refl, λ h. absurd (omega arith))
 
   line_shown : (p : Ring K.group.Carrier) → Sound p → (line : Line K.group.Carrier) → GoesOn K r d p line →
-      Shown p line.call line.handed (checked r.q (size line.call p) line.call line.handed) line.got
-  line_shown p sound line on = go (checked r.q (size call p) call s) refl line.got on.promise on.no_gap
+      Shown p line.call line.handed (checked r.q (size line.call (length p.cells)) line.call line.handed) line.got
+  line_shown p sound line on = go (checked r.q (size call (length p.cells)) call s) refl line.got on.promise on.no_gap
     where
       call : Call
       call = line.call
@@ -141,8 +141,8 @@ module _ {C : Type 0} (K : Kind C) (r : Local) (d : Weights K.group.Carrier) (la
       s : Strips K.group.Carrier
       s = line.handed
 
-      go : (w : Result (Unit {0}) Refusal) → checked r.q (size call p) call s ≡ w → (got : Outcome K.group.Carrier) →
-          got ≡ unless_refused w (worked K r d (size call p) call s) (λ f. record { said = refused f; left = s }) → (Accepted got.said → HandedOn call s p) → Shown p call s w got
+      go : (w : Result (Unit {0}) Refusal) → checked r.q (size call (length p.cells)) call s ≡ w → (got : Outcome K.group.Carrier) →
+          got ≡ unless_refused w (worked K r d (size call (length p.cells)) call s) (λ f. record { said = refused f; left = s }) → (Accepted got.said → HandedOn call s p) → Shown p call s w got
       go (Ok t) e got is = subst (λ o. (Accepted o.said → HandedOn call s p) → Shown p call s (Ok t) o) (sym is) (work_shown p sound call s on.order e)
       go (Err f) e got is = subst (λ o. (Accepted o.said → HandedOn call s p) → Shown p call s (Err f) o) (sym is) (λ _. (refl, refl, sound))
 

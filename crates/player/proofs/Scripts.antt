@@ -1,6 +1,5 @@
 -- A script leaves the ring that stands at the front of the strips, and its log has no gaps. Assumes nothing.
-use Rattle.std.proofs.Common.{◌≡◌, ℕ, ◌≤◌, true, List, [], ◌∷◌, ◌++◌, length, take, drop, set, fold, Ok, Err, Result, sym, refl, ap, ◌∙◌, subst, length-set, take_at, leb-true, arith}
-use Rattle.std.proofs.lemmas.Bool.{cond_both}
+use Rattle.std.proofs.Common.{◌≡◌, ℕ, ◌≤◌, Bool, true, false, cond, List, [], ◌∷◌, ◌++◌, length, take, drop, set, fold, Ok, Err, Result, sym, refl, ap, ◌∙◌, subst, length-set, take_at, leb-true, arith}
 use Rattle.std.proofs.lemmas.List.Sums.{fold_push}
 use Rattle.fault.specs.Refusals.{Refusal}
 use Rattle.charge.specs.Groups.{Kind}
@@ -9,8 +8,9 @@ use Rattle.automaton.proofs.Steps.{length-next}
 use Rattle.player.specs.Calls.{Call, Ring, Strips, Outcome, size, checked, front, worked, unless_refused, outcome}
 use Rattle.player.specs.Calls.Call.{opens, touches, steps, reads, closes}
 use Rattle.player.specs.Calls.Answer.{refused}
-use Rattle.player.specs.Logs.{allowed, ended, used, accepted, standing, HandedOn, WithoutGaps}
-use Rattle.player.specs.Scripts.{Played, answered, unanswered, played_more, played, ScriptsLogged}
+use Rattle.player.specs.Logs.{Line, Log, allowed, ended, used, accepted, standing, HandedOn, WithoutGaps}
+use Rattle.player.specs.Logs.Log.{◌then◌}
+use Rattle.player.specs.Scripts.{Played, got, left_by, logged, played_more, played, ScriptsLogged}
 use Rattle.player.proofs.Logs.{front_again, ring_same}
 
 -- where a ring is open, it is the front of the strips
@@ -20,7 +20,7 @@ Stands p s = 1 ≤ length p.cells → p ≡ front (length p.cells) s
 stands_in : {A : Type 0} (p : Ring A) (s : Strips A) (L : ℕ) → p ≡ front L s → length p.cells ≡ L → Stands p s
 stands_in p s L is size = λ _. is ∙ ap (λ n. front n s) (sym size)
 
-handed_on : {A : Type 0} (p : Ring A) (s : Strips A) → Stands p s → (call : Call) → allowed call p ≡ true → HandedOn call s p
+handed_on : {A : Type 0} (p : Ring A) (s : Strips A) → Stands p s → (call : Call) → allowed call (length p.cells) ≡ true → HandedOn call s p
 handed_on p s stands (opens ring) order = tt
 handed_on p s stands (touches i a) order =
     subst (λ x. used (touches i a) (front (length p.cells) s) x ≡ x) (sym (stands (leb-true 1 (length p.cells) order))) refl
@@ -31,10 +31,10 @@ handed_on p s stands closes order = tt
 module _ {C : Type 0} (K : Kind C) (r : Local) (d : Weights K.group.Carrier) where
   -- the ring that stands after a call
   abbrev after : Ring K.group.Carrier → Call → Outcome K.group.Carrier → Ring K.group.Carrier
-  after p call got = accepted got.said (ended call (used call (front (size call p) got.left) p)) p
+  after p call got = accepted got.said (ended call (used call (front (size call (length p.cells)) got.left) p)) p
 
-  work_stands : (p : Ring K.group.Carrier) (s : Strips K.group.Carrier) → Stands p s → (call : Call) → allowed call p ≡ true →
-      Stands (after p call (worked K r d (size call p) call s)) (worked K r d (size call p) call s).left
+  work_stands : (p : Ring K.group.Carrier) (s : Strips K.group.Carrier) → Stands p s → (call : Call) → allowed call (length p.cells) ≡ true →
+      Stands (after p call (worked K r d (size call (length p.cells)) call s)) (worked K r d (size call (length p.cells)) call s).left
   work_stands p s stands (opens ring) order =
       let L : ℕ = length ring in
       let left : Strips K.group.Carrier = (worked K r d L (opens ring) s).left in
@@ -63,33 +63,42 @@ module _ {C : Type 0} (K : Kind C) (r : Local) (d : Weights K.group.Carrier) whe
       stands_in (front L left) left L refl (ap length (front_again L s.cells) ∙ ap (λ x. length x.cells) (sym (stands (leb-true 1 L order))))
   work_stands p s stands closes order = λ h. absurd (omega arith)
 
-  outcome_stands : (p : Ring K.group.Carrier) (s : Strips K.group.Carrier) → Stands p s → (call : Call) → allowed call p ≡ true →
-      Stands (after p call (outcome K r d (size call p) call s)) (outcome K r d (size call p) call s).left
-  outcome_stands p s stands call order = go (checked r.q (size call p) call s)
+  outcome_stands : (p : Ring K.group.Carrier) (s : Strips K.group.Carrier) → Stands p s → (call : Call) → allowed call (length p.cells) ≡ true →
+      Stands (after p call (outcome K r d (size call (length p.cells)) call s)) (outcome K r d (size call (length p.cells)) call s).left
+  outcome_stands p s stands call order = go (checked r.q (size call (length p.cells)) call s)
     where
       go : (w : Result (Unit {0}) Refusal) →
-          let got = unless_refused w (worked K r d (size call p) call s) (λ f. record { said = refused f; left = s }) in Stands (after p call got) got.left
+          let got = unless_refused w (worked K r d (size call (length p.cells)) call s) (λ f. record { said = refused f; left = s }) in Stands (after p call got) got.left
       go (Ok t) = work_stands p s stands call order
       go (Err f) = stands
 
   -- a log without gaps, and what stands is the front of the strips
-  abbrev Whole : Played K.group.Carrier → Type 0
-  Whole p = WithoutGaps K r d p.log × Stands (standing p.log) p.strips
+  abbrev Whole : Log K.group.Carrier → Strips K.group.Carrier → Type 0
+  Whole log s = WithoutGaps K r d log × Stands (standing log) s
 
-  more_whole : (p : Played K.group.Carrier) (call : Call) → Whole p → Whole (played_more K r d p call)
-  more_whole p call whole =
-      cond_both (allowed call (standing p.log)) (answered K r d p call) (unanswered K r d p) Whole
-      (λ order. (
-        (whole.0, record { order = order; promise = refl; no_gap = λ _. handed_on (standing p.log) p.strips whole.1 call order }),
-        outcome_stands (standing p.log) p.strips whole.1 call order,
-      ))
-      (λ _. whole)
+  more_whole : (log : Log K.group.Carrier) (s : Strips K.group.Carrier) (call : Call) → Whole log s →
+      Whole (logged K r d (length (standing log).cells) call s log) (left_by K r d (length (standing log).cells) call s)
+  more_whole log s call whole = go (allowed call L) refl
+    where
+      L : ℕ
+      L = length (standing log).cells
 
-  played_whole : (p : Played K.group.Carrier) → Whole p → (script : List Call) → Whole (fold (played_more K r d) p script)
+      line : Line K.group.Carrier
+      line = record { call = call; handed = s; got = got K r d L call s }
+
+      go : (b : Bool) → allowed call L ≡ b → Whole (cond b (log then line) log) (cond b (got K r d L call s).left s)
+      go true order = (
+        (whole.0, record { order = order; promise = refl; no_gap = λ _. handed_on (standing log) s whole.1 call order }),
+        outcome_stands (standing log) s whole.1 call order,
+      )
+      go false order = whole
+
+  played_whole : (p : Played K.group.Carrier) → Whole p.log p.strips → (script : List Call) →
+      let q = fold (played_more K r d) p script in Whole q.log q.strips
   played_whole p whole [] = whole
-  played_whole p whole (call ∷ script) = played_whole (played_more K r d p call) (more_whole p call whole) script
+  played_whole p whole (call ∷ script) = played_whole (played_more K r d p call) (more_whole p.log p.strips call whole) script
 
-  script_whole : (s : Strips K.group.Carrier) (script : List Call) → Whole (played K r d s script)
+  script_whole : (s : Strips K.group.Carrier) (script : List Call) → let q = played K r d s script in Whole q.log q.strips
   script_whole s script = played_whole (played K r d s []) (tt, λ h. absurd (omega arith)) script
 
   -- where a ring is open after a script, it is the front of the strips as they stand

@@ -41,13 +41,13 @@ pub record Strips (A : Type 0) : Type 0 where
   pub crossed : List A
   pub touched : List A
 
--- how many cells the ring of a call has: the ring that open is given, or else the ring that is open
-abbrev pub size : {A : Type 0} → Call → Ring A → ℕ
-size (opens ring) p = length ring
-size (touches i a) p = length p.cells
-size steps p = length p.cells
-size (reads i) p = length p.cells
-size closes p = length p.cells
+-- how many cells the ring of a call has: the ring that open is given, or else the ring of L cells that is open
+abbrev pub size : Call → ℕ → ℕ
+size (opens ring) L = length ring
+size (touches i a) L = L
+size steps L = L
+size (reads i) L = L
+size closes L = L
 
 -- what a call on a ring of L cells is held to, in the order of the stop codes
 abbrev pub tests : {A : Type 0} → ℕ → Call → Strips A → List (Bool × Stop)

@@ -26,13 +26,13 @@ pub data Log (A : Type 0) : Type 0 where
 abbrev pub no_ring : {A : Type 0} → Ring A
 no_ring = record { cells = []; opening = []; crossed = []; touched = [] }
 
--- the states allow open while no ring is open, and the other calls while one is
-abbrev pub allowed : {A : Type 0} → Call → Ring A → Bool
-allowed (opens ring) p = nat_eq (length p.cells) 0
-allowed (touches i a) p = nat_le 1 (length p.cells)
-allowed steps p = nat_le 1 (length p.cells)
-allowed (reads i) p = nat_le 1 (length p.cells)
-allowed closes p = nat_le 1 (length p.cells)
+-- the states allow open while no ring is open, one of no cells, and the other calls while a ring of L cells is
+abbrev pub allowed : Call → ℕ → Bool
+allowed (opens ring) L = nat_eq L 0
+allowed (touches i a) L = nat_le 1 L
+allowed steps L = nat_le 1 L
+allowed (reads i) L = nat_le 1 L
+allowed closes L = nat_le 1 L
 
 -- close ends the ring
 abbrev pub ended : {A : Type 0} → Call → Ring A → Ring A
@@ -66,7 +66,7 @@ abbrev pub standing : {A : Type 0} → Log A → Ring A
 standing made = no_ring
 standing (log then line) =
     let p = standing log in
-    accepted line.got.said (ended line.call (used line.call (front (size line.call p) line.got.left) p)) p
+    accepted line.got.said (ended line.call (used line.call (front (size line.call (length p.cells)) line.got.left) p)) p
 
 -- a touch, a step and a read are handed what stands, in the first L entries of the strips that they read or write
 abbrev pub HandedOn : {A : Type 0} → Call → Strips A → Ring A → Type 0
@@ -89,10 +89,10 @@ module _ {C : Type 0} (K : Kind C) (r : Local) (d : Weights K.group.Carrier) whe
   -- The plain ring is fed calls and what they were handed, and no answers: it keeps cells, opening, crossed and
   -- touched of its own.
   abbrev pub plain_answer : Ring K.group.Carrier → Call → Strips K.group.Carrier → Answer K.group.Carrier
-  plain_answer p call handed = unless_refused (checked r.q (size call p) call handed) (answer K r d call p) refused
+  plain_answer p call handed = unless_refused (checked r.q (size call (length p.cells)) call handed) (answer K r d call p) refused
 
   abbrev pub plain_after : Ring K.group.Carrier → Call → Strips K.group.Carrier → Ring K.group.Carrier
-  plain_after p call handed = unless_refused (checked r.q (size call p) call handed) (ended call (work K r d call p)) (λ _. p)
+  plain_after p call handed = unless_refused (checked r.q (size call (length p.cells)) call handed) (ended call (work K r d call p)) (λ _. p)
 
   abbrev pub plain : Log K.group.Carrier → Ring K.group.Carrier
   plain made = no_ring
@@ -101,8 +101,8 @@ module _ {C : Type 0} (K : Kind C) (r : Local) (d : Weights K.group.Carrier) whe
   -- A line goes on from where the player stands: the states allow its call, which keeps its promise, and which if it
   -- is accepted was handed what stands.
   pub record GoesOn (p : Ring K.group.Carrier) (line : Line K.group.Carrier) : Type 0 where
-    pub order : allowed line.call p ≡ true
-    pub promise : line.got ≡ outcome K r d (size line.call p) line.call line.handed
+    pub order : allowed line.call (length p.cells) ≡ true
+    pub promise : line.got ≡ outcome K r d (size line.call (length p.cells)) line.call line.handed
     pub no_gap : Accepted line.got.said → HandedOn line.call line.handed p
 
   abbrev pub WithoutGaps : Log K.group.Carrier → Type 0

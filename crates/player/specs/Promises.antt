@@ -6,8 +6,23 @@ use Rattle.charge.specs.Groups.{Kind}
 use Rattle.automaton.specs.Meanings.{Local, Weights}
 use Rattle.bench.specs.declared.state.Refused.{Refused}
 use Rattle.player.specs.declared.meters.Reading.{Reading}
+use Rattle.player.specs.declared.call.Call.{Call as Asked}
+use Rattle.player.specs.declared.call.Call.TheVariants.{Open, Touch, Step, Read, Close}
+use Rattle.player.specs.declared.call.Answer.{Answer as Answered}
+use Rattle.player.specs.declared.call.Answer.TheVariants.{Done, Reading as Read_as, Refused as Refused_by}
+use Rattle.player.specs.declared.player.Player.{Player}
+use Rattle.player.specs.declared.player.Player.TheVariants.{Idle, Playing}
 use Rattle.player.specs.Calls.{Call, Answer, Strips, Outcome, outcome}
+use Rattle.player.specs.Calls.Call.{opens, touches, steps, reads, closes}
 use Rattle.player.specs.Calls.Answer.{done, reading, refused}
+
+-- a call with what it is given
+abbrev pub asked : Asked → Call
+asked (Open ring) = opens ring.now
+asked (Touch site letter) = touches site letter
+asked Step = steps
+asked (Read site) = reads site
+asked Close = closes
 
 module _ {C : Type 0} (K : Kind C) where
   -- strips by what their charges mean
@@ -23,6 +38,12 @@ module _ {C : Type 0} (K : Kind C) where
   -- a reading by what its charges mean
   abbrev pub reading_means : Reading C → Answer K.group.Carrier
   reading_means m = reading (K.means m.opening) (K.means m.crossed) (K.means m.touched) (K.means m.now)
+
+  -- an answer to a call of a script
+  abbrev pub answered : Answered C → Answer K.group.Carrier
+  answered Done = done
+  answered (Read_as m) = reading_means m
+  answered (Refused_by f) = refused (refusal f)
 
   -- what the calls answer
   abbrev pub read_said : Result (Reading C) Fault → Answer K.group.Carrier
@@ -40,6 +61,15 @@ module _ {C : Type 0} (K : Kind C) where
   -- a call on a ring of L cells answers and leaves the strips as it is defined to
   abbrev pub Does : Local → Weights K.group.Carrier → ℕ → Call → Strips K.group.Carrier → Answer K.group.Carrier → Strips K.group.Carrier → Type 0
   Does r d L call handed said left = outcome K r d L call handed ≡ record { said = said; left = left }
+
+-- how many cells the ring has that is open on a bench, none where none is open, and what is kept of the bench
+abbrev pub open_cells : {H P : Type 0} → (P → ℕ) → Player H P → ℕ
+open_cells cells (Idle h) = 0
+open_cells cells (Playing p) = cells p
+
+abbrev pub of_player : {H P X : Type 0} → (H → X) → (P → X) → Player H P → X
+of_player of_idle of_playing (Idle h) = of_idle h
+of_player of_idle of_playing (Playing p) = of_playing p
 
 -- the charges past the first n stay, and after a refusal all do
 abbrev pub Stays : {X Y F : Type 0} → Result Y F → ℕ → List X → List X → Type 0

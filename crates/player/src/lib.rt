@@ -1,17 +1,22 @@
 // The player: rings with meters, opened from a bench that holds. Assumes nothing.
 #![tactic(auto)]
 
+mod call;
 mod checking;
+mod closing;
 mod ledger;
 mod meters;
 mod opening;
+mod player;
 mod playing;
 mod reading;
 mod sites;
 mod stepping;
 mod touching;
 
+pub use call::{Answer, Call};
 pub use ledger::Ledger;
 pub use meters::Reading;
+pub use player::{Player, PlayerOf};
 pub use playing::Playing;
 

@@ -1,0 +1,101 @@
+// A bench that holds, as calls move it from state to state.
+ghost use Rattle.std.specs.Prelude.{◌≡◌, []};
+ghost use Rattle.std.specs.Option.{option_map};
+ghost use Rattle.player.specs.Promises.{strips, asked, answered, done_said, read_said, open_cells, of_player};
+ghost use Rattle.player.specs.Scripts.{said_to, left_by, cells_after};
+
+use crate::call::{Answer, Call};
+use crate::meters::Reading;
+use crate::playing::Playing;
+use automaton::{Density, Rule};
+use bench::Holding;
+use charge::Charge;
+use fault::Fault;
+
+// A bench that holds: H where no ring is open on it, and P where one is.
+#[derive(Drop)]
+pub enum Player<H, P> {
+    Idle(H),
+    Playing(P),
+}
+
+// A holding bench in either state.
+pub type PlayerOf<C, R, D> = Player<Holding<C, R, D>, Playing<C, R, D>>;
+
+fn done_or_refused<C: Charge>(done: Result<(), Fault>) -> Answer<C>
+    ensures { answered C.kind result ≡ done_said C.kind done }
+{
+    match done {
+        Ok(()) => Answer::Done,
+        Err(fault) => Answer::Refused(fault),
+    }
+}
+
+fn read_or_refused<C: Charge>(read: Result<Reading<C>, Fault>) -> Answer<C>
+    ensures { answered C.kind result ≡ read_said C.kind read }
+{
+    match read {
+        Ok(reading) => Answer::Reading(reading),
+        Err(fault) => Answer::Refused(fault),
+    }
+}
+
+// Answers a call where no ring is open: only open is allowed.
+fn obey_idle<C: Charge, R: Rule, D: Density<C>>(
+    bench: Holding<C, R, D>,
+    call: Call<'_>,
+    cells: &mut [u8],
+    spare: &[u8],
+    opening: &mut [C],
+    crossed: &mut [C],
+    touched: &mut [C],
+) -> (PlayerOf<C, R, D>, Option<Answer<C>>)
+    ensures said { option_map (answered C.kind) result.1 ≡ said_to C.kind (R.meaning bench.parts.rule) (D.weights C.kind bench.parts.density) 0 (asked call.entry) (strips C.kind cells.old spare.now opening.old crossed.old touched.old) }
+    ensures left { strips C.kind cells.new spare.now opening.new crossed.new touched.new ≡ left_by C.kind (R.meaning bench.parts.rule) (D.weights C.kind bench.parts.density) 0 (asked call.entry) (strips C.kind cells.old spare.now opening.old crossed.old touched.old) }
+    ensures cells { open_cells (λ p. p.len) result.0 ≡ cells_after C.kind (R.meaning bench.parts.rule) (D.weights C.kind bench.parts.density) 0 (asked call.entry) (strips C.kind cells.old spare.now opening.old crossed.old touched.old) }
+    ensures bench { of_player (λ h. h) (λ p. p.bench) result.0 ≡ bench }
+{
+    let Call::Open(ring) = call else {
+        return (Player::Idle(bench), None);
+    };
+    match Playing::open(bench, ring, cells, opening, crossed, touched) {
+        Ok(playing) => (Player::Playing(playing), Some(Answer::Done)),
+        Err(refused) => (
+            Player::Idle(refused.state),
+            Some(Answer::Refused(refused.fault)),
+        ),
+    }
+}
+
+// Answers a call where a ring is open: any but open is allowed.
+fn obey_playing<C: Charge, R: Rule, D: Density<C>>(
+    playing: Playing<C, R, D>,
+    call: Call<'_>,
+    cells: &mut [u8],
+    spare: &mut [u8],
+    opening: &mut [C],
+    crossed: &mut [C],
+    touched: &mut [C],
+) -> (PlayerOf<C, R, D>, Option<Answer<C>>)
+    ensures said { option_map (answered C.kind) result.1 ≡ said_to C.kind (R.meaning playing.bench.parts.rule) (D.weights C.kind playing.bench.parts.density) playing.len (asked call.entry) (strips C.kind cells.old spare.old opening.old crossed.old touched.old) }
+    ensures left { strips C.kind cells.new spare.new opening.new crossed.new touched.new ≡ left_by C.kind (R.meaning playing.bench.parts.rule) (D.weights C.kind playing.bench.parts.density) playing.len (asked call.entry) (strips C.kind cells.old spare.old opening.old crossed.old touched.old) }
+    ensures cells { open_cells (λ p. p.len) result.0 ≡ cells_after C.kind (R.meaning playing.bench.parts.rule) (D.weights C.kind playing.bench.parts.density) playing.len (asked call.entry) (strips C.kind cells.old spare.old opening.old crossed.old touched.old) }
+    ensures bench { of_player (λ h. h) (λ p. p.bench) result.0 ≡ playing.bench }
+{
+    match call {
+        Call::Open(_) => (Player::Playing(playing), None),
+        Call::Touch { site, letter } => {
+            let answer = done_or_refused(playing.touch(site, letter, cells, touched));
+            (Player::Playing(playing), Some(answer))
+        }
+        Call::Step => {
+            let answer = done_or_refused(playing.step(cells, spare, crossed));
+            (Player::Playing(playing), Some(answer))
+        }
+        Call::Read { site } => {
+            let answer = read_or_refused(playing.read(site, cells, opening, crossed, touched));
+            (Player::Playing(playing), Some(answer))
+        }
+        Call::Close => (Player::Idle(playing.close()), Some(Answer::Done)),
+    }
+}
