@@ -12,3 +12,4 @@ pub mod Refusals
 pub mod Steps
 pub mod Scripts
 pub mod Wide
+pub mod Plays

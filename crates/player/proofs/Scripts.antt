@@ -10,7 +10,7 @@ use Rattle.player.specs.Calls.Call.{opens, touches, steps, reads, closes}
 use Rattle.player.specs.Calls.Answer.{refused}
 use Rattle.player.specs.Logs.{Line, Log, allowed, ended, used, accepted, standing, HandedOn, WithoutGaps}
 use Rattle.player.specs.Logs.Log.{◌then◌}
-use Rattle.player.specs.Scripts.{Played, got, left_by, logged, played_more, played, ScriptsLogged}
+use Rattle.player.specs.Scripts.{Played, got, left_by, logged, still_open, cells_after, played_more, played, ScriptsLogged}
 use Rattle.player.proofs.Logs.{front_again, ring_same}
 
 -- where a ring is open, it is the front of the strips
@@ -33,44 +33,72 @@ module _ {C : Type 0} (K : Kind C) (r : Local) (d : Weights K.group.Carrier) whe
   abbrev after : Ring K.group.Carrier → Call → Outcome K.group.Carrier → Ring K.group.Carrier
   after p call got = accepted got.said (ended call (used call (front (size call (length p.cells)) got.left) p)) p
 
+  -- and how many cells it has
+  abbrev Leaves : Ring K.group.Carrier → Call → Outcome K.group.Carrier → ℕ → Type 0
+  Leaves p call got n = Stands (after p call got) got.left × (length (after p call got).cells ≡ n)
+
   work_stands : (p : Ring K.group.Carrier) (s : Strips K.group.Carrier) → Stands p s → (call : Call) → allowed call (length p.cells) ≡ true →
-      Stands (after p call (worked K r d (size call (length p.cells)) call s)) (worked K r d (size call (length p.cells)) call s).left
+      Leaves p call (worked K r d (size call (length p.cells)) call s) (still_open call (size call (length p.cells)))
   work_stands p s stands (opens ring) order =
       let L : ℕ = length ring in
       let left : Strips K.group.Carrier = (worked K r d L (opens ring) s).left in
-      stands_in (front L left) left L refl (ap length (take_at ring (drop L s.cells) L refl))
+      let count : length (take L left.cells) ≡ L = ap length (take_at ring (drop L s.cells) L refl) in
+      (stands_in (front L left) left L refl count, count)
   work_stands p s stands (touches i a) order =
       let L : ℕ = length p.cells in
       let left : Strips K.group.Carrier = (worked K r d L (touches i a) s).left in
       let is : p ≡ front L s = stands (leb-true 1 L order) in
       let size : length (set (take L s.cells) i a) ≡ L = length-set (take L s.cells) i a ∙ ap (λ x. length x.cells) (sym is) in
-      stands_in (used (touches i a) (front L left) p) left L
-      (ring_same (used (touches i a) (front L left) p) (front L left) refl (ap (λ x. x.opening) is ∙ sym (front_again L s.opening))
-      (ap (λ x. x.crossed) is ∙ sym (front_again L s.crossed)) refl)
-      (ap length (take_at (set (take L s.cells) i a) (drop L s.cells) L size) ∙ size)
+      let count : length (take L left.cells) ≡ L = ap length (take_at (set (take L s.cells) i a) (drop L s.cells) L size) ∙ size in (
+        stands_in (used (touches i a) (front L left) p) left L
+            (ring_same (used (touches i a) (front L left) p) (front L left) refl (ap (λ x. x.opening) is ∙ sym (front_again L s.opening))
+            (ap (λ x. x.crossed) is ∙ sym (front_again L s.crossed)) refl)
+            count,
+        count,
+      )
   work_stands p s stands steps order =
       let L : ℕ = length p.cells in
       let left : Strips K.group.Carrier = (worked K r d L steps s).left in
       let is : p ≡ front L s = stands (leb-true 1 L order) in
       let size : length (next r (take L s.cells)) ≡ L = length-next r (take L s.cells) ∙ ap (λ x. length x.cells) (sym is) in
-      stands_in (used steps (front L left) p) left L
-      (ring_same (used steps (front L left) p) (front L left) refl (ap (λ x. x.opening) is ∙ sym (front_again L s.opening))
-      refl (ap (λ x. x.touched) is ∙ sym (front_again L s.touched)))
-      (ap length (take_at (next r (take L s.cells)) (drop L s.cells) L size) ∙ size)
+      let count : length (take L left.cells) ≡ L = ap length (take_at (next r (take L s.cells)) (drop L s.cells) L size) ∙ size in (
+        stands_in (used steps (front L left) p) left L
+            (ring_same (used steps (front L left) p) (front L left) refl (ap (λ x. x.opening) is ∙ sym (front_again L s.opening))
+            refl (ap (λ x. x.touched) is ∙ sym (front_again L s.touched)))
+            count,
+        count,
+      )
   work_stands p s stands (reads i) order =
       let L : ℕ = length p.cells in
       let left : Strips K.group.Carrier = (worked K r d L (reads i) s).left in
-      stands_in (front L left) left L refl (ap length (front_again L s.cells) ∙ ap (λ x. length x.cells) (sym (stands (leb-true 1 L order))))
-  work_stands p s stands closes order = λ h. absurd (omega arith)
+      let count : length (take L left.cells) ≡ L = ap length (front_again L s.cells) ∙ ap (λ x. length x.cells) (sym (stands (leb-true 1 L order))) in
+      (stands_in (front L left) left L refl count, count)
+  work_stands p s stands closes order = (λ h. absurd (omega arith), refl)
 
   outcome_stands : (p : Ring K.group.Carrier) (s : Strips K.group.Carrier) → Stands p s → (call : Call) → allowed call (length p.cells) ≡ true →
-      Stands (after p call (outcome K r d (size call (length p.cells)) call s)) (outcome K r d (size call (length p.cells)) call s).left
-  outcome_stands p s stands call order = go (checked r.q (size call (length p.cells)) call s)
+      let L : ℕ = length p.cells in
+      let out = outcome K r d (size call L) call s in
+      Leaves p call out (accepted out.said (still_open call (size call L)) L)
+  outcome_stands p s stands call order = go (checked r.q (size call L) call s)
     where
+      L : ℕ
+      L = length p.cells
+
+      works : Outcome K.group.Carrier
+      works = worked K r d (size call L) call s
+
       go : (w : Result (Unit {0}) Refusal) →
-          let got = unless_refused w (worked K r d (size call (length p.cells)) call s) (λ f. record { said = refused f; left = s }) in Stands (after p call got) got.left
-      go (Ok t) = work_stands p s stands call order
-      go (Err f) = stands
+          let out = unless_refused w works (λ f. record { said = refused f; left = s }) in
+          Leaves p call out (accepted out.said (still_open call (size call L)) L)
+      go (Ok t) = subst (λ n. Leaves p call works n) (sym (accepts call)) (work_stands p s stands call order)
+        where
+          accepts : (call : Call) → accepted (worked K r d (size call L) call s).said (still_open call (size call L)) L ≡ still_open call (size call L)
+          accepts (opens ring) = refl
+          accepts (touches i a) = refl
+          accepts steps = refl
+          accepts (reads i) = refl
+          accepts closes = refl
+      go (Err f) = (stands, refl)
 
   -- a log without gaps, and what stands is the front of the strips
   abbrev Whole : Log K.group.Carrier → Strips K.group.Carrier → Type 0
@@ -89,7 +117,7 @@ module _ {C : Type 0} (K : Kind C) (r : Local) (d : Weights K.group.Carrier) whe
       go : (b : Bool) → allowed call L ≡ b → Whole (cond b (log then line) log) (cond b (got K r d L call s).left s)
       go true order = (
         (whole.0, record { order = order; promise = refl; no_gap = λ _. handed_on (standing log) s whole.1 call order }),
-        outcome_stands (standing log) s whole.1 call order,
+        (outcome_stands (standing log) s whole.1 call order).0,
       )
       go false order = whole
 
@@ -104,6 +132,27 @@ module _ {C : Type 0} (K : Kind C) (r : Local) (d : Weights K.group.Carrier) whe
   -- where a ring is open after a script, it is the front of the strips as they stand
   pub script_stands : (s : Strips K.group.Carrier) (script : List Call) → Stands (standing (played K r d s script).log) (played K r d s script).strips
   script_stands s script = (script_whole s script).1
+
+  -- how many cells the ring has that stands after one call more
+  pub cells_stand : (s : Strips K.group.Carrier) (script : List Call) (call : Call) →
+      let p = played K r d s script in
+      cells_after K r d (length (standing p.log).cells) call p.strips ≡ length (standing (played_more K r d p call).log).cells
+  cells_stand s script call = go (allowed call L) refl
+    where
+      p : Played K.group.Carrier
+      p = played K r d s script
+
+      L : ℕ
+      L = length (standing p.log).cells
+
+      out : Outcome K.group.Carrier
+      out = got K r d L call p.strips
+
+      go : (b : Bool) → allowed call L ≡ b →
+          cond b (accepted out.said (still_open call (size call L)) L) L
+          ≡ length (standing (cond b (p.log then record { call = call; handed = p.strips; got = out }) p.log)).cells
+      go true order = sym (outcome_stands (standing p.log) p.strips (script_stands s script) call order).1
+      go false order = refl
 
   -- one more call
   pub played_push : (s : Strips K.group.Carrier) (script : List Call) (call : Call) →

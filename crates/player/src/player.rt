@@ -1,8 +1,8 @@
 // A bench that holds, as calls move it from state to state.
-ghost use Rattle.std.specs.Prelude.{◌≡◌, []};
+ghost use Rattle.std.specs.Prelude.{◌≡◌, ◌≤◌, map, length, take, drop};
 ghost use Rattle.std.specs.Option.{option_map};
 ghost use Rattle.player.specs.Promises.{strips, asked, answered, done_said, read_said, open_cells, of_player};
-ghost use Rattle.player.specs.Scripts.{said_to, left_by, cells_after};
+ghost use Rattle.player.specs.Scripts.{said_to, left_by, cells_after, played};
 
 use crate::call::{Answer, Call};
 use crate::meters::Reading;
@@ -98,4 +98,53 @@ fn obey_playing<C: Charge, R: Rule, D: Density<C>>(
         }
         Call::Close => (Player::Idle(playing.close()), Some(Answer::Done)),
     }
+}
+
+// Answers a call. One that the state does not allow has no answer.
+fn obey<C: Charge, R: Rule, D: Density<C>>(
+    player: PlayerOf<C, R, D>,
+    call: Call<'_>,
+    cells: &mut [u8],
+    spare: &mut [u8],
+    opening: &mut [C],
+    crossed: &mut [C],
+    touched: &mut [C],
+) -> (PlayerOf<C, R, D>, Option<Answer<C>>)
+    ensures said { option_map (answered C.kind) result.1 ≡ said_to C.kind (R.meaning (of_player (λ h. h) (λ p. p.bench) player).parts.rule) (D.weights C.kind (of_player (λ h. h) (λ p. p.bench) player).parts.density) (open_cells (λ p. p.len) player) (asked call.entry) (strips C.kind cells.old spare.old opening.old crossed.old touched.old) }
+    ensures left { strips C.kind cells.new spare.new opening.new crossed.new touched.new ≡ left_by C.kind (R.meaning (of_player (λ h. h) (λ p. p.bench) player).parts.rule) (D.weights C.kind (of_player (λ h. h) (λ p. p.bench) player).parts.density) (open_cells (λ p. p.len) player) (asked call.entry) (strips C.kind cells.old spare.old opening.old crossed.old touched.old) }
+    ensures cells { open_cells (λ p. p.len) result.0 ≡ cells_after C.kind (R.meaning (of_player (λ h. h) (λ p. p.bench) player).parts.rule) (D.weights C.kind (of_player (λ h. h) (λ p. p.bench) player).parts.density) (open_cells (λ p. p.len) player) (asked call.entry) (strips C.kind cells.old spare.old opening.old crossed.old touched.old) }
+    ensures bench { of_player (λ h. h) (λ p. p.bench) result.0 ≡ of_player (λ h. h) (λ p. p.bench) player }
+{
+    match player {
+        Player::Idle(bench) => obey_idle(bench, call, cells, spare, opening, crossed, touched),
+        Player::Playing(playing) => {
+            obey_playing(playing, call, cells, spare, opening, crossed, touched)
+        }
+    }
+}
+
+// Answers each call of a script.
+fn play<C: Charge, R: Rule, D: Density<C>>(
+    bench: Holding<C, R, D>,
+    script: &[Call<'_>],
+    cells: &mut [u8],
+    spare: &mut [u8],
+    opening: &mut [C],
+    crossed: &mut [C],
+    touched: &mut [C],
+    answers: &mut [Option<Answer<C>>],
+) -> PlayerOf<C, R, D>
+    requires { length script.now ≤ length answers.old }
+    ensures bench { of_player (λ h. h) (λ p. p.bench) result ≡ bench }
+    ensures strips { strips C.kind cells.new spare.new opening.new crossed.new touched.new ≡ (played C.kind (R.meaning bench.parts.rule) (D.weights C.kind bench.parts.density) (strips C.kind cells.old spare.old opening.old crossed.old touched.old) (map asked script.now)).strips }
+    ensures answers { map (option_map (answered C.kind)) (take (length script.now) answers.new) ≡ (played C.kind (R.meaning bench.parts.rule) (D.weights C.kind bench.parts.density) (strips C.kind cells.old spare.old opening.old crossed.old touched.old) (map asked script.now)).said }
+    ensures past { drop (length script.now) answers.new ≡ drop (length script.now) answers.old }
+{
+    let mut player = Player::Idle(bench);
+    for (i, call) in script.iter().enumerate() {
+        let (next, answer) = obey(player, *call, cells, spare, opening, crossed, touched);
+        player = next;
+        answers[i] = answer;
+    }
+    player
 }

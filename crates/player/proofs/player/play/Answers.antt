@@ -1,0 +1,34 @@
+use Rattle.std.proofs.Common.{map, length, take, get_or, set, sym, ap, ◌∙◌, arith}
+use Rattle.std.specs.Option.{option_map}
+use Rattle.player.specs.Logs.{standing}
+use Rattle.player.specs.Promises.{strips, asked, answered}
+use Rattle.player.specs.Scripts.{said_to, left_by, cells_after}
+use Rattle.player.proofs.Plays.{script_more, answers_more, answers_past}
+use Rattle.player.proofs.Scripts.{cells_stand}
+use Rattle.player.proofs.player.play.Goals as goal
+
+pub loop-i-preserved : goal.loop-i-preserved
+loop-i-preserved g c =
+    let K = g.C.Charge.kind in
+    let a = c.args in
+    let i = c.loop-i.i in
+    let r = g.R.Rule.meaning a.bench.parts.rule in
+    let d = g.D.Density.weights K a.bench.parts.density in
+    let first = strips K a.cells.now a.spare.now a.opening.now a.crossed.now a.touched.now in
+    let call = asked (get_or a.script.now i _) in
+    let inv = c.loop-i.invariant in
+    let told = c.obey-next.ensures in
+    let more = script_more K r d first asked a.script.now i _ (omega arith) in (
+      told.bench ∙ inv.0,
+      told.cells
+          ∙ (λ j. cells_after K (g.R.Rule.meaning (inv.0 j).parts.rule) (g.D.Density.weights K (inv.0 j).parts.density) (inv.1 j) call (inv.2 j))
+          ∙ cells_stand K r d first (map asked (take i a.script.now)) call
+          ∙ ap (λ p. length (standing p.log).cells) (sym more),
+      told.left
+          ∙ (λ j. left_by K (g.R.Rule.meaning (inv.0 j).parts.rule) (g.D.Density.weights K (inv.0 j).parts.density) (inv.1 j) call (inv.2 j))
+          ∙ ap (λ p. p.strips) (sym more),
+      answers_more (option_map (answered K)) c.loop-i.answers i c.obey-next.result.1 _ _ (omega arith) inv.3
+          (told.said ∙ (λ j. said_to K (g.R.Rule.meaning (inv.0 j).parts.rule) (g.D.Density.weights K (inv.0 j).parts.density) (inv.1 j) call (inv.2 j)))
+          ∙ ap (λ p. p.said) (sym more),
+      answers_past c.loop-i.answers a.answers.now i c.obey-next.result.1 inv.4,
+    )
