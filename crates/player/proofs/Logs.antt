@@ -13,7 +13,7 @@ use Rattle.automaton.proofs.Rings.{length-table}
 use Rattle.automaton.proofs.Steps.{length-next}
 use Rattle.bench.specs.Laws.{KeepsTotal}
 use Rattle.bench.specs.Verdicts.{bench_checked}
-use Rattle.player.specs.Calls.{Call, Ring, Strips, Outcome, size, checked, front, charges, crossing_at, opened, put, stepped, work, answer, worked, unless_refused}
+use Rattle.player.specs.Calls.{Call, Ring, Strips, Outcome, size, checked, front, charges, crossing_at, opened, put, stepped, work, answer, worked, passed_or}
 use Rattle.player.specs.Calls.Call.{opens, touches, steps, reads, closes}
 use Rattle.player.specs.Calls.Answer.{refused}
 use Rattle.player.specs.Logs.{Line, Log, allowed, ended, used, accepted, Accepted, standing, HandedOn, OnEveryLine, plain_answer, plain_after, plain, GoesOn, WithoutGaps, ArcsAgree, LineTrue, LogsTrue}
@@ -49,8 +49,8 @@ module _ {C : Type 0} (K : Kind C) (r : Local) (d : Weights K.group.Carrier) (la
   -- what is shown of a line, whose refusal is w
   abbrev Shown : Ring K.group.Carrier → Call → Strips K.group.Carrier → Result (Unit {0}) Refusal → Outcome K.group.Carrier → Type 0
   Shown p call s w got =
-      let after : Ring K.group.Carrier = unless_refused w (ended call (work K r d call p)) (λ _. p) in
-      (got.said ≡ unless_refused w (answer K r d call p) refused)
+      let after : Ring K.group.Carrier = passed_or w (ended call (work K r d call p)) (λ _. p) in
+      (got.said ≡ passed_or w (answer K r d call p) refused)
       × (accepted got.said (ended call (used call (front (size call (length p.cells)) got.left) p)) p ≡ after)
       × Sound after
 
@@ -142,7 +142,7 @@ module _ {C : Type 0} (K : Kind C) (r : Local) (d : Weights K.group.Carrier) (la
       s = line.handed
 
       go : (w : Result (Unit {0}) Refusal) → checked r.q (size call (length p.cells)) call s ≡ w → (got : Outcome K.group.Carrier) →
-          got ≡ unless_refused w (worked K r d (size call (length p.cells)) call s) (λ f. record { said = refused f; left = s }) → (Accepted got.said → HandedOn call s p) → Shown p call s w got
+          got ≡ passed_or w (worked K r d (size call (length p.cells)) call s) (λ f. record { said = refused f; left = s }) → (Accepted got.said → HandedOn call s p) → Shown p call s w got
       go (Ok t) e got is = subst (λ o. (Accepted o.said → HandedOn call s p) → Shown p call s (Ok t) o) (sym is) (work_shown p sound call s on.order e)
       go (Err f) e got is = subst (λ o. (Accepted o.said → HandedOn call s p) → Shown p call s (Err f) o) (sym is) (λ _. (refl, refl, sound))
 

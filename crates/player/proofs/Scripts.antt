@@ -5,7 +5,7 @@ use Rattle.fault.specs.Refusals.{Refusal}
 use Rattle.charge.specs.Groups.{Kind}
 use Rattle.automaton.specs.Meanings.{Local, Weights, next}
 use Rattle.automaton.proofs.Steps.{length-next}
-use Rattle.player.specs.Calls.{Call, Ring, Strips, Outcome, size, checked, front, worked, unless_refused, outcome}
+use Rattle.player.specs.Calls.{Call, Ring, Strips, Outcome, size, checked, front, worked, passed_or, outcome}
 use Rattle.player.specs.Calls.Call.{opens, touches, steps, reads, closes}
 use Rattle.player.specs.Calls.Answer.{refused}
 use Rattle.player.specs.Logs.{Line, Log, allowed, ended, used, accepted, standing, HandedOn, WithoutGaps}
@@ -88,7 +88,7 @@ module _ {C : Type 0} (K : Kind C) (r : Local) (d : Weights K.group.Carrier) whe
       works = worked K r d (size call L) call s
 
       go : (w : Result (Unit {0}) Refusal) →
-          let out = unless_refused w works (λ f. record { said = refused f; left = s }) in
+          let out = passed_or w works (λ f. record { said = refused f; left = s }) in
           Leaves p call out (accepted out.said (still_open call (size call L)) L)
       go (Ok t) = subst (λ n. Leaves p call works n) (sym (accepts call)) (work_stands p s stands call order)
         where

@@ -4,7 +4,7 @@ use Rattle.std.proofs.lemmas.Bool.Decides.{nat_tests}
 use Rattle.charge.specs.Groups.{Kind}
 use Rattle.automaton.specs.Meanings.{next}
 use Rattle.automaton.proofs.Steps.{length-next}
-use Rattle.player.specs.Calls.{Strips, checked, worked, unless_refused, outcome}
+use Rattle.player.specs.Calls.{Strips, checked, worked, passed_or, outcome}
 use Rattle.player.specs.Calls.Call.{steps}
 use Rattle.player.specs.Calls.Answer.{refused}
 use Rattle.player.specs.Laws.{StepsOn}
@@ -16,7 +16,7 @@ steps_passed q L s e = grind (arith, nat_tests)
 module _ {C : Type 0} (K : Kind C) where
   pub steps_on : StepsOn K
   steps_on r d L s e =
-      let is : outcome K r d L steps s ≡ worked K r d L steps s = ap (λ t. unless_refused t (worked K r d L steps s) (λ f. record { said = refused f; left = s })) e in
+      let is : outcome K r d L steps s ≡ worked K r d L steps s = ap (λ t. passed_or t (worked K r d L steps s) (λ f. record { said = refused f; left = s })) e in
       let fits = steps_passed r.q L s e in (
         ap (λ o. take L o.left.cells) is
         ∙ take_at (next r (take L s.cells)) (drop L s.cells) L (length-next r (take L s.cells) ∙ length-take-le L s.cells fits.0),

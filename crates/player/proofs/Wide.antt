@@ -4,7 +4,7 @@ use Rattle.std.proofs.lemmas.List.{take-append-drop}
 use Rattle.fault.specs.Refusals.{Refusal}
 use Rattle.charge.specs.Groups.{Kind}
 use Rattle.automaton.specs.Meanings.{Local, Weights}
-use Rattle.player.specs.Calls.{Call, Answer, Strips, Outcome, checked, worked, unless_refused, outcome}
+use Rattle.player.specs.Calls.{Call, Answer, Strips, Outcome, checked, worked, passed_or, outcome}
 use Rattle.player.specs.Calls.Call.{touches, steps}
 use Rattle.player.specs.Calls.Answer.{done, reading, refused}
 use Rattle.player.specs.Logs.{accepted}
@@ -36,8 +36,8 @@ module _ {C : Type 0} (K : Kind C) (r : Local) (d : Weights K.group.Carrier) (L 
 
   module _ (i a : ℕ) where
     touches_widens : (w : Result (Unit {0}) Refusal) →
-        let got = unless_refused w (worked K r d L (touches i a) (strips K cells [] [] [] touched)) (λ f. record { said = refused f; left = strips K cells [] [] [] touched }) in
-        unless_refused w (worked K r d L (touches i a) all) (λ f. record { said = refused f; left = all })
+        let got = passed_or w (worked K r d L (touches i a) (strips K cells [] [] [] touched)) (λ f. record { said = refused f; left = strips K cells [] [] [] touched }) in
+        passed_or w (worked K r d L (touches i a) all) (λ f. record { said = refused f; left = all })
         ≡ record { said = got.said; left = record { cells = got.left.cells; spare = spare; opening = map K.means opening; crossed = map K.means crossed; touched = got.left.touched } }
     touches_widens (Ok t) = λ j. record {
       said = done;
@@ -59,8 +59,8 @@ module _ {C : Type 0} (K : Kind C) (r : Local) (d : Weights K.group.Carrier) (L 
         ∙ ap (λ o. record { cells = o.left.cells; spare = spare; opening = map K.means opening; crossed = map K.means crossed; touched = o.left.touched }) does)
 
   steps_widens : (w : Result (Unit {0}) Refusal) →
-      let got = unless_refused w (worked K r d L steps (strips K cells spare [] crossed [])) (λ f. record { said = refused f; left = strips K cells spare [] crossed [] }) in
-      unless_refused w (worked K r d L steps all) (λ f. record { said = refused f; left = all })
+      let got = passed_or w (worked K r d L steps (strips K cells spare [] crossed [])) (λ f. record { said = refused f; left = strips K cells spare [] crossed [] }) in
+      passed_or w (worked K r d L steps all) (λ f. record { said = refused f; left = all })
       ≡ record { said = got.said; left = record { cells = got.left.cells; spare = got.left.spare; opening = map K.means opening; crossed = got.left.crossed; touched = map K.means touched } }
   steps_widens (Ok t) = λ j. record {
     said = done;

@@ -75,10 +75,10 @@ letters L closes s = []
 abbrev pub checked : {A : Type 0} → ℕ → ℕ → Call → Strips A → Result (Unit {0}) Refusal
 checked q L call s = and_then (tested (tests L call s)) (λ _. each_fits (λ a. ltb a q) BadLetter 0 (letters L call s))
 
--- x, unless a call is refused
-abbrev pub unless_refused : {X : Type 0} → Result (Unit {0}) Refusal → X → (Refusal → X) → X
-unless_refused (Ok t) x y = x
-unless_refused (Err f) x y = y f
+-- x where a call has passed its tests, and y of its refusal otherwise
+abbrev pub passed_or : {X : Type 0} → Result (Unit {0}) Refusal → X → (Refusal → X) → X
+passed_or (Ok t) x y = x
+passed_or (Err f) x y = y f
 
 -- f i is added to each entry i
 abbrev pub booked : (G : Group) → (ℕ → G.Carrier) → List G.Carrier → List G.Carrier
@@ -171,4 +171,4 @@ module _ {C : Type 0} (K : Kind C) (r : Local) (d : Weights K.group.Carrier) whe
 
   -- A call on a ring of L cells, by the strips that it is handed. A refused call leaves all as it was.
   abbrev pub outcome : ℕ → Call → Strips K.group.Carrier → Outcome K.group.Carrier
-  outcome L call s = unless_refused (checked r.q L call s) (worked L call s) (λ f. record { said = refused f; left = s })
+  outcome L call s = passed_or (checked r.q L call s) (worked L call s) (λ f. record { said = refused f; left = s })

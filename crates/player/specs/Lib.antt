@@ -3,3 +3,4 @@ pub mod Logs
 pub mod Laws
 pub mod Promises
 pub mod Scripts
+pub mod Whole

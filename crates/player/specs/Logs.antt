@@ -5,7 +5,7 @@ use Rattle.automaton.specs.Words.{round}
 use Rattle.automaton.specs.Meanings.{Local, Weights, Lawful, Weighed}
 use Rattle.bench.specs.Laws.{KeepsTotal}
 use Rattle.bench.specs.Verdicts.{bench_checked}
-use Rattle.player.specs.Calls.{Call, Answer, Ring, Strips, Outcome, size, checked, unless_refused, front, charges, work, answer, outcome}
+use Rattle.player.specs.Calls.{Call, Answer, Ring, Strips, Outcome, size, checked, passed_or, front, charges, work, answer, outcome}
 use Rattle.player.specs.Calls.Call.{opens, touches, steps, reads, closes}
 use Rattle.player.specs.Calls.Answer.{done, reading, refused}
 
@@ -89,10 +89,10 @@ module _ {C : Type 0} (K : Kind C) (r : Local) (d : Weights K.group.Carrier) whe
   -- The plain ring is fed calls and what they were handed, and no answers: it keeps cells, opening, crossed and
   -- touched of its own.
   abbrev pub plain_answer : Ring K.group.Carrier → Call → Strips K.group.Carrier → Answer K.group.Carrier
-  plain_answer p call handed = unless_refused (checked r.q (size call (length p.cells)) call handed) (answer K r d call p) refused
+  plain_answer p call handed = passed_or (checked r.q (size call (length p.cells)) call handed) (answer K r d call p) refused
 
   abbrev pub plain_after : Ring K.group.Carrier → Call → Strips K.group.Carrier → Ring K.group.Carrier
-  plain_after p call handed = unless_refused (checked r.q (size call (length p.cells)) call handed) (ended call (work K r d call p)) (λ _. p)
+  plain_after p call handed = passed_or (checked r.q (size call (length p.cells)) call handed) (ended call (work K r d call p)) (λ _. p)
 
   abbrev pub plain : Log K.group.Carrier → Ring K.group.Carrier
   plain made = no_ring

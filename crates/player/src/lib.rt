@@ -7,6 +7,7 @@ mod closing;
 mod ledger;
 mod meters;
 mod opening;
+mod performing;
 mod player;
 mod playing;
 mod reading;
@@ -17,6 +18,7 @@ mod touching;
 pub use call::{Answer, Call};
 pub use ledger::Ledger;
 pub use meters::Reading;
+pub use performing::{Performed, perform};
 pub use player::{Player, PlayerOf};
 pub use playing::Playing;
 

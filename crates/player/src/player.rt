@@ -124,7 +124,7 @@ fn obey<C: Charge, R: Rule, D: Density<C>>(
 }
 
 // Answers each call of a script.
-fn play<C: Charge, R: Rule, D: Density<C>>(
+pub(crate) fn play<C: Charge, R: Rule, D: Density<C>>(
     bench: Holding<C, R, D>,
     script: &[Call<'_>],
     cells: &mut [u8],

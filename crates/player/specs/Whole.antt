@@ -1,0 +1,59 @@
+-- What performing a script on a drafted bench promises. Assumes nothing.
+use Rattle.std.specs.Prelude.{◌≡◌, ℕ, ◌+◌, ◌-◌, ◌*◌, List, ◌∷◌, [], take, Ok, Err, Option, Result, nat_le, slice_index_or}
+use Rattle.fault.specs.declared.Stop.TheVariants.{ShortStrip}
+use Rattle.fault.specs.Answers.{and_then}
+use Rattle.fault.specs.Checks.{tested}
+use Rattle.fault.specs.Refusals.{Refusal}
+use Rattle.charge.specs.Groups.{Kind}
+use Rattle.automaton.specs.Words.{code}
+use Rattle.automaton.specs.Meanings.{Local, Weights, next, total}
+use Rattle.criterion.specs.Balance.{OnlyTable}
+use Rattle.criterion.specs.Search.{padding}
+use Rattle.bench.specs.declared.state.Verdict.{Verdict}
+use Rattle.bench.specs.declared.state.Verdict.TheVariants.{Holds, Breaks}
+use Rattle.bench.specs.Labels.{rule_label}
+use Rattle.bench.specs.Laws.{KeepsTotal, Apart}
+use Rattle.bench.specs.Verdicts.{Judgement}
+use Rattle.bench.specs.Verdicts.Judgement.{holds, breaks}
+use Rattle.player.specs.Calls.{Call, Answer, Strips}
+use Rattle.player.specs.Logs.{OnEveryLine, WithoutGaps, LineTrue}
+use Rattle.player.specs.Scripts.{played}
+
+-- a script of n calls needs room for n answers, and then what comes next
+abbrev pub with_answers : {X : Type 0} → ℕ → ℕ → Result X Refusal → Result X Refusal
+with_answers n room x = and_then (tested ((nat_le n room, ShortStrip) ∷ [])) (λ _. x)
+
+module _ {C : Type 0} (K : Kind C) (r : Local) (d : Weights K.group.Carrier) where
+  -- Under "holds" no ring of any length changes its total in a step; otherwise the ring shown changes its total, and has
+  -- at most 2 (n + k) - 3 cells. So the answer is "holds" exactly when no ring changes its total.
+  abbrev pub VerdictTrue : Result (Judgement K.group.Carrier) Refusal → List ℕ → Type 0
+  VerdictTrue (Ok holds) ring = KeepsTotal K.group r d
+  VerdictTrue (Ok (breaks b)) ring = Apart r.q (2 * (r.n + d.k) - 3) (λ c. total K.group d (next r c)) (total K.group d) (take b.len ring)
+  VerdictTrue (Err f) ring = Unit {0}
+
+  -- under "holds" the strip of crossings, read by codes, balances every word and is zero on the word of zeros, and every
+  -- table that does both equals it at each word
+  abbrev pub CrossingsTrue : Result (Judgement K.group.Carrier) Refusal → List K.group.Carrier → Type 0
+  CrossingsTrue (Ok holds) strip =
+      OnlyTable K.group (rule_label K.group r d) padding r.q (r.n + d.k - 2) (λ v. slice_index_or strip (code r.q v) K.group.zero)
+  CrossingsTrue (Ok (breaks b)) strip = Unit {0}
+  CrossingsTrue (Err f) strip = Unit {0}
+
+  -- the strips and the answers are those of the script's log, which has no gaps and is true on every line
+  pub record Logged (script : List Call) (handed left : Strips K.group.Carrier) (said : List (Option (Answer K.group.Carrier))) : Type 0 where
+    pub strips : left ≡ (played K r d handed script).strips
+    pub answers : said ≡ (played K r d handed script).said
+    pub whole : WithoutGaps K r d (played K r d handed script).log
+    pub lines : OnEveryLine (LineTrue K r d) (played K r d handed script).log
+
+  -- under "holds" the script is played
+  abbrev pub ScriptTrue : Result (Judgement K.group.Carrier) Refusal → List Call → Strips K.group.Carrier → Strips K.group.Carrier → List (Option (Answer K.group.Carrier)) → Type 0
+  ScriptTrue (Ok holds) script handed left said = Logged script handed left said
+  ScriptTrue (Ok (breaks b)) script handed left said = Unit {0}
+  ScriptTrue (Err f) script handed left said = Unit {0}
+
+-- what is so unless a bench holds
+abbrev pub UnlessHolds : {C H B E : Type 0} → Result (Verdict C H B) E → Type 0 → Type 0
+UnlessHolds (Ok (Holds h)) P = Unit {0}
+UnlessHolds (Ok (Breaks b found)) P = P
+UnlessHolds (Err e) P = P
