@@ -1,5 +1,5 @@
 -- Charges that are written and booked one site after another. Assumes nothing.
-use Rattle.std.proofs.Common.{◌≡◌, ℕ, ◌+◌, ◌-◌, ◌<◌, ◌≤◌, List, ◌++◌, map, length, get_or, take, drop, set, sym, ap, ◌∙◌, subst, ap₂, arith}
+use Rattle.std.proofs.Common.{◌≡◌, ℕ, ◌+◌, ◌-◌, ◌<◌, List, ◌++◌, map, length, get_or, take, drop, set, sym, ap, ◌∙◌, subst, ap₂, arith}
 use Rattle.std.proofs.lemmas.List.{map-set, map-append, drop-map, take-append-drop, take_at, drop_at, length-map, length-take-le, get_or-drop, get_or-append_right, drop_all, take_all, append-nil}
 use Rattle.charge.specs.Groups.{Group, Kind}
 use Rattle.automaton.specs.Words.{table}

@@ -1,5 +1,5 @@
 -- The crossing at a site, by the code of its cells. Assumes nothing.
-use Rattle.std.proofs.Common.{◌≡◌, ℕ, ◌+◌, ◌-◌, ◌^◌, ◌<◌, ◌≤◌, List, length, get_or, sym, ap, ◌∙◌, subst, arith}
+use Rattle.std.proofs.Common.{◌≡◌, ℕ, ◌+◌, ◌-◌, ◌^◌, ◌<◌, ◌≤◌, List, length, get_or, ap, ◌∙◌, subst, arith}
 use Rattle.charge.specs.Groups.{Kind}
 use Rattle.automaton.specs.Words.{Letters, Word, code, word, window, cell, before}
 use Rattle.automaton.specs.Meanings.{Local, Weights}

@@ -96,7 +96,7 @@ module _ {C : Type 0} (K : Kind C) (r : Local) (d : Weights K.group.Carrier) whe
       let gain : ℕ → G.Carrier = λ j. minus G (charges K r d c' j) (charges K r d c j) in
       let gain_turn : (j : ℕ) → gain (j + length p.touched) ≡ gain j =
       λ j. ap (λ n. gain (j + n)) k.touched_long
-          ∙ ap₂ (minus G) (ap (λ n. charges K r d c' (j + n)) (sym size) ∙ charges_turn c' j) (charges_turn c j) in
+      ∙ ap₂ (minus G) (ap (λ n. charges K r d c' (j + n)) (sym size) ∙ charges_turn c' j) (charges_turn c j) in
       record {
         some = omega (arith, size, k.some);
         below = letters_set r.q c i a small k.below;

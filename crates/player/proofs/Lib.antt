@@ -13,3 +13,4 @@ pub mod Steps
 pub mod Scripts
 pub mod Wide
 pub mod Plays
+pub mod Whole

@@ -1,12 +1,12 @@
 -- What holds on each line of a log without gaps. Assumes nothing.
-use Rattle.std.proofs.Common.{◌≡◌, ℕ, zero, suc, ◌+◌, ◌<◌, ◌≤◌, true, ltb, List, [], ◌∷◌, ◌++◌, length, take, drop, set, Ok, Err, Result, sym, refl, ap, ◌∙◌, subst, ap₂, add-zero, length-set, length-append, take_at, take-append-drop, get_or-append-add, leb-true, arith}
+use Rattle.std.proofs.Common.{◌≡◌, ℕ, zero, suc, ◌+◌, ◌≤◌, true, ltb, List, ◌++◌, length, take, drop, set, Ok, Err, Result, sym, refl, ap, ◌∙◌, subst, ap₂, add-zero, length-set, take_at, take-append-drop, leb-true, arith}
 use Rattle.std.proofs.lemmas.Bool.Decides.{nat_tests}
 use Rattle.fault.specs.declared.Stop.TheVariants.{BadLetter}
 use Rattle.fault.specs.Checks.{each_fits}
 use Rattle.fault.specs.Refusals.{Refusal}
 use Rattle.charge.specs.Groups.{Kind, minus}
 use Rattle.charge.proofs.Sums.{unit-right}
-use Rattle.automaton.specs.Words.{Letters, round}
+use Rattle.automaton.specs.Words.{round}
 use Rattle.automaton.specs.Meanings.{Local, Weights, Lawful, Weighed, next}
 use Rattle.automaton.proofs.Passes.{ring-letters}
 use Rattle.automaton.proofs.Rings.{length-table}
@@ -18,20 +18,13 @@ use Rattle.player.specs.Calls.Call.{opens, touches, steps, reads, closes}
 use Rattle.player.specs.Calls.Answer.{refused}
 use Rattle.player.specs.Logs.{Line, Log, allowed, ended, used, accepted, Accepted, standing, HandedOn, OnEveryLine, plain_answer, plain_after, plain, GoesOn, WithoutGaps, ArcsAgree, LineTrue, LogsTrue}
 use Rattle.player.specs.Logs.Log.{made, ◌then◌}
+use Rattle.player.proofs.Passed.{letters_passed, last_below}
 use Rattle.player.proofs.Kept.{Kept, length-booked, opened_kept, put_kept, stepped_kept, arcs_agree}
 
--- what an opening and a touch have passed
+-- what an opening has passed
 opens_passed : {A : Type 0} (q L : ℕ) (ring : List ℕ) (s : Strips A) → checked q L (opens ring) s ≡ Ok tt →
     (1 ≤ L) × (each_fits (λ a. ltb a q) BadLetter 0 ring ≡ Ok tt)
 opens_passed q L ring s e = grind (arith, nat_tests)
-
-touches_passed : {A : Type 0} (q L i a : ℕ) (s : Strips A) → checked q L (touches i a) s ≡ Ok tt →
-    each_fits (λ a. ltb a q) BadLetter 0 (take L s.cells ++ (a ∷ [])) ≡ Ok tt
-touches_passed q L i a s e = grind (arith, nat_tests)
-
--- the last letter, where all are below q
-last_below : (q : ℕ) (w : List ℕ) (a : ℕ) → Letters q (w ++ (a ∷ [])) → a < q
-last_below q w a below = subst (λ x. x < q) (get_or-append-add w (a ∷ []) 0 0) (below (length w + 0) (omega (arith, length-append w (a ∷ []))))
 
 -- a front that is laid where it stood
 pub front_again : {X : Type 0} (n : ℕ) (xs : List X) → take n (take n xs ++ drop n xs) ≡ take n xs
@@ -92,7 +85,7 @@ module _ {C : Type 0} (K : Kind C) (r : Local) (d : Weights K.group.Carrier) (la
             ∙ ap length touched
             ∙ (sound playing).touched_long)
             ∙ ap₂ (λ c t. (put K r d i a (record { cells = c; opening = p.opening; crossed = p.crossed; touched = t })).touched) cells touched),
-        λ _. put_kept K r d p i a (last_below r.q h.cells a (ring-letters r.q (h.cells ++ (a ∷ [])) (touches_passed r.q L i a s e))) (sound playing),
+        λ _. put_kept K r d p i a (last_below r.q h.cells a (letters_passed r.q L (touches i a) s e)) (sound playing),
       )
 
   steps_shown : (p : Ring K.group.Carrier) → Sound p → 1 ≤ length p.cells → (s : Strips K.group.Carrier) → HandedOn steps s p → WorkShown p steps s

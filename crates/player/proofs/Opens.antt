@@ -1,5 +1,5 @@
 -- What an opening leaves. Assumes nothing.
-use Rattle.std.proofs.Common.{◌≡◌, ℕ, List, [], ◌++◌, length, map, drop, Ok, sym, ap, ◌∙◌, subst}
+use Rattle.std.proofs.Common.{◌≡◌, ℕ, List, [], length, drop, Ok, sym, ap, ◌∙◌, subst}
 use Rattle.fault.specs.Answers.{front}
 use Rattle.charge.specs.Groups.{Kind}
 use Rattle.automaton.specs.Words.{table}

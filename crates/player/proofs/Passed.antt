@@ -1,5 +1,5 @@
 -- What a call that is not refused has passed. Assumes nothing.
-use Rattle.std.proofs.Common.{◌≡◌, ℕ, zero, suc, ◌+◌, ◌<◌, ◌≤◌, Bool, true, false, cond, List, [], ◌∷◌, ◌++◌, length, map, get_or, take, min, Ok, Err, Result, ltb, sym, refl, ap, ◌∙◌, subst, add-zero, length-append, length-take-le, get_or-append-add, arith}
+use Rattle.std.proofs.Common.{◌≡◌, ℕ, suc, ◌+◌, ◌<◌, ◌≤◌, Bool, true, false, cond, List, [], ◌∷◌, ◌++◌, length, map, take, min, Ok, Err, Result, ltb, sym, refl, ap, ◌∙◌, subst, add-zero, length-append, length-take-le, get_or-append-add, arith}
 use Rattle.std.proofs.lemmas.List.{get_or_append_left, length-map}
 use Rattle.std.proofs.lemmas.Bool.Decides.{nat_tests}
 use Rattle.std.specs.Result.{result_and}
@@ -13,7 +13,7 @@ use Rattle.charge.specs.Groups.{Kind}
 use Rattle.automaton.specs.Words.{Letters}
 use Rattle.automaton.proofs.Passes.{ring-letters}
 use Rattle.player.specs.Calls.{Call, Strips, tests, letters, checked}
-use Rattle.player.specs.Calls.Call.{touches, steps, reads}
+use Rattle.player.specs.Calls.Call.{touches, steps}
 use Rattle.player.specs.Promises.{strips}
 
 -- the second of two tests, where both have passed

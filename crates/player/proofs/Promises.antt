@@ -2,7 +2,7 @@
 use Rattle.std.proofs.Common.{◌≡◌, ℕ, Ok, ap, ◌∙◌}
 use Rattle.charge.specs.Groups.{Kind}
 use Rattle.automaton.specs.Meanings.{Local, Weights}
-use Rattle.player.specs.Calls.{Call, Answer, Strips, Outcome, checked, worked, passed_or}
+use Rattle.player.specs.Calls.{Call, Answer, Strips, checked, worked, passed_or}
 use Rattle.player.specs.Calls.Answer.{refused}
 use Rattle.player.specs.Promises.{Does}
 

@@ -69,8 +69,8 @@ module _ (q : ℕ) (w : List ℕ) (Size Strip Place : Type 0) where
       none f (inr (inr (inr x))) = absurd (omega (arith, x.1.1, below f.1 x.1.0))
   letters_lowest a b c (Err f) told = (
     inr (inr (inr
-      (subst (λ (f : Refusal). (f ≡ refused_at BadLetter f.1) × FirstOffender q w f.1) (sym (told.1 ∙ ap (refused_at BadLetter) (zero-add told.0)))
-      (refl, told.2)))),
+        (subst (λ (f : Refusal). (f ≡ refused_at BadLetter f.1) × FirstOffender q w f.1) (sym (told.1 ∙ ap (refused_at BadLetter) (zero-add told.0)))
+        (refl, told.2)))),
     at_least f.0 (λ x. absurd (a x)) (λ x. absurd (b x)) (λ x. absurd (c x)) (omega (arith, ap (λ (f : Refusal). f.0) told.1)),
   )
 

@@ -1,6 +1,6 @@
 -- What a step leaves. Assumes nothing.
 use Rattle.std.proofs.Common.{◌≡◌, ℕ, ◌≤◌, List, [], ◌++◌, length, map, take, drop, Ok, Err, Result, sym, refl, ap, ◌∙◌, subst, arith}
-use Rattle.std.proofs.lemmas.List.{take-append-drop, length-take-le, length-map}
+use Rattle.std.proofs.lemmas.List.{take-append-drop, length-take-le}
 use Rattle.std.proofs.lemmas.Bool.Decides.{nat_tests}
 use Rattle.fault.specs.declared.Fault.{Fault}
 use Rattle.fault.specs.Answers.{plainly, front}
@@ -10,7 +10,6 @@ use Rattle.automaton.proofs.Steps.{length-next}
 use Rattle.criterion.specs.Strips.{FrontMeans}
 use Rattle.player.specs.Calls.{crossing_at, booked, checked}
 use Rattle.player.specs.Calls.Call.{steps}
-use Rattle.player.specs.Calls.Answer.{done}
 use Rattle.player.specs.Promises.{strips, done_said, Does, Stays}
 use Rattle.player.proofs.Books.{front-means, front-past}
 use Rattle.player.proofs.Kept.{length-booked}

@@ -1,13 +1,12 @@
 -- What a touch leaves. Assumes nothing.
-use Rattle.std.proofs.Common.{◌≡◌, ℕ, ◌+◌, ◌<◌, ◌≤◌, List, [], ◌++◌, length, map, get_or, take, drop, set, Ok, sym, refl, ap, ◌∙◌, subst, ap₂, arith}
+use Rattle.std.proofs.Common.{◌≡◌, ℕ, ◌<◌, ◌≤◌, List, [], ◌++◌, length, map, get_or, take, drop, set, Ok, sym, ap, ◌∙◌, subst, ap₂, arith}
 use Rattle.std.proofs.lemmas.List.{ext_get_or, take-append-drop, drop-set-lt, length-take-le, length-map, take_at}
 use Rattle.std.proofs.Math.Seq.{take-set-lt}
 use Rattle.charge.specs.Groups.{Group, Kind, minus}
-use Rattle.automaton.specs.Words.{table}
 use Rattle.automaton.specs.Meanings.{Local, Weights}
-use Rattle.automaton.proofs.Rings.{length-table, get_or-table}
+use Rattle.automaton.proofs.Rings.{get_or-table}
 use Rattle.criterion.specs.Strips.{FrontMeans}
-use Rattle.player.specs.Calls.{charges, booked, checked, worked}
+use Rattle.player.specs.Calls.{charges, booked, checked}
 use Rattle.player.specs.Calls.Call.{touches}
 use Rattle.player.specs.Calls.Answer.{done}
 use Rattle.player.specs.Promises.{strips, Does}

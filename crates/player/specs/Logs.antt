@@ -16,7 +16,6 @@ pub record Line (A : Type 0) : Type 0 where
   pub got : Outcome A
 
 infixl 4 ◌then◌
-
 -- the lines of a log, from the making of a bench on
 pub data Log (A : Type 0) : Type 0 where
   made : Log A

@@ -12,7 +12,7 @@ use Rattle.player.specs.declared.call.Answer.{Answer as Answered}
 use Rattle.player.specs.declared.call.Answer.TheVariants.{Done, Reading as Read_as, Refused as Refused_by}
 use Rattle.player.specs.declared.player.Player.{Player}
 use Rattle.player.specs.declared.player.Player.TheVariants.{Idle, Playing}
-use Rattle.player.specs.Calls.{Call, Answer, Strips, Outcome, outcome}
+use Rattle.player.specs.Calls.{Call, Answer, Strips, outcome}
 use Rattle.player.specs.Calls.Call.{opens, touches, steps, reads, closes}
 use Rattle.player.specs.Calls.Answer.{done, reading, refused}
 

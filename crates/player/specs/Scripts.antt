@@ -4,7 +4,7 @@ use Rattle.charge.specs.Groups.{Kind}
 use Rattle.automaton.specs.Meanings.{Local, Weights}
 use Rattle.player.specs.Calls.{Call, Answer, Strips, Outcome, size, outcome}
 use Rattle.player.specs.Calls.Call.{opens, touches, steps, reads, closes}
-use Rattle.player.specs.Logs.{Log, Line, allowed, accepted, standing, WithoutGaps}
+use Rattle.player.specs.Logs.{Log, allowed, accepted, standing, WithoutGaps}
 use Rattle.player.specs.Logs.Log.{made, ◌then◌}
 
 -- what has been played: the log, the strips as they stand, and what was answered to each call

@@ -39,18 +39,23 @@ module _ {C : Type 0} (K : Kind C) (r : Local) (d : Weights K.group.Carrier) whe
   CrossingsTrue (Ok (breaks b)) strip = Unit {0}
   CrossingsTrue (Err f) strip = Unit {0}
 
-  -- the strips and the answers are those of the script's log, which has no gaps and is true on every line
-  pub record Logged (script : List Call) (handed left : Strips K.group.Carrier) (said : List (Option (Answer K.group.Carrier))) : Type 0 where
-    pub strips : left ≡ (played K r d handed script).strips
-    pub answers : said ≡ (played K r d handed script).said
-    pub whole : WithoutGaps K r d (played K r d handed script).log
-    pub lines : OnEveryLine (LineTrue K r d) (played K r d handed script).log
+  -- under "holds" the strips and the answers are those of the script's log
+  abbrev pub Plays : Result (Judgement K.group.Carrier) Refusal → List Call → Strips K.group.Carrier → Strips K.group.Carrier →
+      List (Option (Answer K.group.Carrier)) → Type 0
+  Plays (Ok holds) script handed left said = (left ≡ (played K r d handed script).strips) × (said ≡ (played K r d handed script).said)
+  Plays (Ok (breaks b)) script handed left said = Unit {0}
+  Plays (Err f) script handed left said = Unit {0}
 
-  -- under "holds" the script is played
-  abbrev pub ScriptTrue : Result (Judgement K.group.Carrier) Refusal → List Call → Strips K.group.Carrier → Strips K.group.Carrier → List (Option (Answer K.group.Carrier)) → Type 0
-  ScriptTrue (Ok holds) script handed left said = Logged script handed left said
-  ScriptTrue (Ok (breaks b)) script handed left said = Unit {0}
-  ScriptTrue (Err f) script handed left said = Unit {0}
+  -- and that log has no gaps and is true on every line
+  abbrev pub LogTrue : Result (Judgement K.group.Carrier) Refusal → List Call → Strips K.group.Carrier → Type 0
+  LogTrue (Ok holds) script handed =
+      let log = (played K r d handed script).log in WithoutGaps K r d log × OnEveryLine (LineTrue K r d) log
+  LogTrue (Ok (breaks b)) script handed = Unit {0}
+  LogTrue (Err f) script handed = Unit {0}
+
+  abbrev pub ScriptTrue : Result (Judgement K.group.Carrier) Refusal → List Call → Strips K.group.Carrier → Strips K.group.Carrier →
+      List (Option (Answer K.group.Carrier)) → Type 0
+  ScriptTrue judged script handed left said = Plays judged script handed left said × LogTrue judged script handed
 
 -- what is so unless a bench holds
 abbrev pub UnlessHolds : {C H B E : Type 0} → Result (Verdict C H B) E → Type 0 → Type 0

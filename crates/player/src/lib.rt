@@ -21,4 +21,3 @@ pub use meters::Reading;
 pub use performing::{Performed, perform};
 pub use player::{Player, PlayerOf};
 pub use playing::Playing;
-

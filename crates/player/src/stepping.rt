@@ -46,12 +46,7 @@ impl<C: Charge, R: Rule, D: Density<C>> Playing<C, R, D> {
 
     // Adds to crossed, at each site, what crosses into it. Then the cells as they stand go to the spare strip, and the
     // next letters to the cells.
-    pub fn step(
-        &self,
-        cells: &mut [u8],
-        spare: &mut [u8],
-        crossed: &mut [C],
-    ) -> Result<(), Fault>
+    pub fn step(&self, cells: &mut [u8], spare: &mut [u8], crossed: &mut [C]) -> Result<(), Fault>
         ensures promise { Does C.kind (R.meaning self.now.bench.parts.rule) (D.weights C.kind self.now.bench.parts.density) self.now.len steps (strips C.kind cells.old spare.old [] crossed.old []) (done_said C.kind result) (strips C.kind cells.new spare.new [] crossed.new []) }
         ensures past { Stays result self.now.len crossed.old crossed.new }
     {

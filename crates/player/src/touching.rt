@@ -29,13 +29,7 @@ impl<C: Charge, R: Rule, D: Density<C>> Playing<C, R, D> {
     }
 
     // The refusal of a touch, by the strips that it is handed.
-    fn check_touch(
-        &self,
-        site: usize,
-        letter: u8,
-        cells: &[u8],
-        touched: &[C],
-    ) -> Result<(), Fault>
+    fn check_touch(&self, site: usize, letter: u8, cells: &[u8], touched: &[C]) -> Result<(), Fault>
         ensures { plainly result ≡ checked (R.meaning self.now.bench.parts.rule).q self.now.len (touches site letter) (strips C.kind cells.now [] [] [] touched.now) }
     {
         Stop::ShortStrip.unless(self.len <= cells.len().min(touched.len()))?;

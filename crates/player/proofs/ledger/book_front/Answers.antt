@@ -1,4 +1,4 @@
-use Rattle.std.proofs.Common.{◌≡◌, ℕ, ◌∙◌, length, take, map, sym, ap, length-take-le}
+use Rattle.std.proofs.Common.{◌∙◌, length, take, map, sym, ap, length-take-le}
 use Rattle.std.proofs.lemmas.List.{take-map, length-map}
 use Rattle.player.specs.Calls.{booked}
 use Rattle.player.proofs.Books.{front-part}

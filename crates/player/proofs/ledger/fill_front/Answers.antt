@@ -1,4 +1,4 @@
-use Rattle.std.proofs.Common.{◌≡◌, ℕ, length, take, ap, ◌∙◌, length-take-le}
+use Rattle.std.proofs.Common.{ap, ◌∙◌, length-take-le}
 use Rattle.automaton.specs.Words.{table}
 use Rattle.automaton.proofs.Rings.{length-table}
 use Rattle.player.proofs.Books.{front-part}

@@ -1,4 +1,4 @@
-use Rattle.std.proofs.Common.{map, length, take, get_or, set, sym, ap, ◌∙◌, arith}
+use Rattle.std.proofs.Common.{◌<◌, map, length, take, get_or, sym, ap, ◌∙◌, arith}
 use Rattle.std.specs.Option.{option_map}
 use Rattle.player.specs.Logs.{standing}
 use Rattle.player.specs.Promises.{strips, asked, answered}
@@ -15,10 +15,11 @@ loop-i-preserved g c =
     let r = g.R.Rule.meaning a.bench.parts.rule in
     let d = g.D.Density.weights K a.bench.parts.density in
     let first = strips K a.cells.now a.spare.now a.opening.now a.crossed.now a.touched.now in
-    let call = asked (get_or a.script.now i _) in
     let inv = c.loop-i.invariant in
     let told = c.obey-next.ensures in
-    let more = script_more K r d first asked a.script.now i _ (omega arith) in (
+    let within : i < length a.script.now = omega arith in
+    let more = script_more K r d first asked a.script.now i _ within in
+    let call = asked (get_or a.script.now i _) in (
       told.bench ∙ inv.0,
       told.cells
           ∙ (λ j. cells_after K (g.R.Rule.meaning (inv.0 j).parts.rule) (g.D.Density.weights K (inv.0 j).parts.density) (inv.1 j) call (inv.2 j))

@@ -1,4 +1,4 @@
-use Rattle.std.proofs.Common.{map, set, get_or, ap, ◌∙◌, ap₂}
+use Rattle.std.proofs.Common.{map, set, ap, ◌∙◌}
 use Rattle.std.proofs.lemmas.List.{map-set}
 use Rattle.player.proofs.ledger.Ledger.add.Goals as goal
 

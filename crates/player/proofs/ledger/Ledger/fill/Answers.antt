@@ -1,8 +1,8 @@
-use Rattle.std.proofs.Common.{◌≡◌, ◌<◌, length, map, ap, ◌∙◌, arith}
+use Rattle.std.proofs.Common.{◌≡◌, length, map, ap, ◌∙◌, arith}
 use Rattle.std.proofs.lemmas.List.{length-map}
 use Rattle.automaton.specs.Words.{table}
 use Rattle.automaton.proofs.Rings.{length-table}
-use Rattle.player.proofs.Books.{half-all, Half, fill_more}
+use Rattle.player.proofs.Books.{half-all, fill_more}
 use Rattle.player.proofs.ledger.Ledger.fill.Goals as goal
 
 pub loop-i-preserved : goal.loop-i-preserved

@@ -1,4 +1,4 @@
-use Rattle.std.proofs.Common.{ℕ, List, [], map, take, sym, subst}
+use Rattle.std.proofs.Common.{ℕ, List, [], map, take, subst}
 use Rattle.automaton.specs.Meanings.{Local, Weights}
 use Rattle.criterion.specs.Strips.{FrontMeans}
 use Rattle.player.specs.Calls.{booked, crossing_at}

@@ -1,4 +1,4 @@
-use Rattle.std.proofs.Common.{◌∙◌, subst, sym, ◌≤◌, arith}
+use Rattle.std.proofs.Common.{◌∙◌, arith}
 use Rattle.player.proofs.Crossings.{crossing-code}
 use Rattle.player.proofs.sites.Sites.crossing.Goals as goal
 

@@ -1,0 +1,99 @@
+-- What performing a script on a drafted bench promises of its verdict, crossings and log. Assumes nothing.
+use Rattle.std.proofs.Common.{◌≡◌, ℕ, ◌+◌, ◌-◌, ◌*◌, ◌^◌, ◌<◌, Bool, true, false, List, [], ◌∷◌, map, length, get_or, take, drop, Some, None, Ok, Err, Option, Result, nat_le, sym, refl, ap, ◌∙◌, subst, ap₂, take_at, arith, length-take-le, length-drop}
+use Rattle.std.specs.Option.{option_map}
+use Rattle.std.proofs.lemmas.List.{get_or_append_left}
+use Rattle.fault.specs.declared.Stop.TheVariants.{ShortStrip}
+use Rattle.fault.specs.Answers.{and_then, front}
+use Rattle.fault.specs.Checks.{tested}
+use Rattle.fault.specs.Refusals.{Refusal}
+use Rattle.charge.specs.Groups.{Group, Kind, minus}
+use Rattle.automaton.specs.Words.{Word, code, word, repeated}
+use Rattle.automaton.specs.Meanings.{Local, Weights, Lawful, Weighed, next, total}
+use Rattle.automaton.proofs.Codes.{code_lt, word-code}
+use Rattle.automaton.proofs.Rings.{length-table, get_or-table, letters-take, letters-drop, repeated-word}
+use Rattle.criterion.specs.Answers.{ring_written, unless_refused}
+use Rattle.criterion.specs.Balance.{OnlyTable}
+use Rattle.criterion.specs.Search.{padding, J, crossings}
+use Rattle.criterion.specs.Strips.{FrontMeans}
+use Rattle.bench.specs.Labels.{rule_label, rule_label_list}
+use Rattle.bench.specs.Laws.{Apart, VerdictRight}
+use Rattle.bench.specs.Verdicts.{Judgement, bench_checked, broken, verdict_of}
+use Rattle.player.specs.Calls.{Call, Strips}
+use Rattle.player.specs.Scripts.{played}
+use Rattle.player.specs.Whole.{with_answers, VerdictTrue, CrossingsTrue, LogTrue}
+use Rattle.player.proofs.Books.{front-means}
+use Rattle.player.proofs.Logs.{logs_true}
+use Rattle.player.proofs.Scripts.{scripts_logged}
+
+-- a verdict by what is found
+abbrev pub verdict_on : {A : Type 0} → (List ℕ → A) → (List ℕ → A) → Result (Option (ℕ × List ℕ)) Refusal → Result (Judgement A) Refusal
+verdict_on now later found = and_then found (λ f. Ok (verdict_of (option_map (broken now later) f)))
+
+-- room for answers is tested before anything is found
+pub answers-first : {A : Type 0} (now later : List ℕ → A) (n room : ℕ) (found : Result (Option (ℕ × List ℕ)) Refusal) →
+    with_answers n room (verdict_on now later found) ≡ verdict_on now later (with_answers n room found)
+answers-first now later n room found = go (nat_le n room)
+  where
+    go : (b : Bool) → and_then (tested ((b, ShortStrip) ∷ [])) (λ _. verdict_on now later found)
+        ≡ verdict_on now later (and_then (tested ((b, ShortStrip) ∷ [])) (λ _. found))
+    go true = refl
+    go false = refl
+
+-- a table of crossings that is the only one, by another that has the same at each word
+only_same : (G : Group) (D : List ℕ → G.Carrier) (z q r : ℕ) (J T : List ℕ → G.Carrier) → z < q → ((v : List ℕ) → Word q r v → T v ≡ J v) →
+    OnlyTable G D z q r J → OnlyTable G D z q r T
+only_same G D z q r J T some same only = (
+  (λ w is.
+      let first : Word q r (take r w) = (length-take-le r w (omega (arith, is.0)), letters-take q r w is.1) in
+      let last : Word q r (drop 1 w) = (omega (arith, is.0, length-drop 1 w), letters-drop q 1 w is.1) in
+      only.0 w is ∙ sym (ap₂ (minus G) (same (take r w) first) (same (drop 1 w) last))),
+  same (repeated z r) (repeated-word q z r some) ∙ only.1,
+  λ S balances zero v is. only.2 S balances zero v is ∙ sym (same v is),
+)
+
+module _ {C : Type 0} (K : Kind C) (r : Local) (d : Weights K.group.Carrier) (lawful : Lawful r) where
+  abbrev verdict : Result (Option (ℕ × List ℕ)) Refusal → Result (Judgement K.group.Carrier) Refusal
+  verdict = verdict_on (total K.group d) (λ c. total K.group d (next r c))
+
+  pub verdict_true : (found : Result (Option (ℕ × List ℕ)) Refusal) (ring old : List ℕ) → VerdictRight K r d found → ring ≡ front (ring_written found) old →
+      VerdictTrue K r d (verdict found) ring
+  verdict_true (Ok None) ring old right e = right.0
+  verdict_true (Ok (Some f)) ring old right e =
+      subst (Apart r.q (2 * (r.n + d.k) - 3) (λ c. total K.group d (next r c)) (total K.group d))
+      (sym (ap (take (length f.1)) e ∙ take_at f.1 (drop (length f.1) old) (length f.1) refl)) right
+  verdict_true (Err f) ring old right e = tt
+
+  -- the strip of crossings at a word
+  strip_at : (old new : List C) → FrontMeans K (crossings K padding (rule_label_list K.group r d)) old new → (v : List ℕ) → Word r.q (r.n + d.k - 2) v →
+      get_or (map K.means new) (code r.q v) K.group.zero ≡ J K padding (rule_label_list K.group r d) v
+  strip_at old new fronts v is =
+      let label = rule_label_list K.group r d in
+      let m : ℕ = label.k - 1 in
+      let rest : r.n + d.k - 2 ≡ m = omega arith in
+      let is' : Word r.q m v = subst (λ n. Word r.q n v) rest is in
+      let xs = crossings K padding label in
+      let at : ℕ → K.group.Carrier = λ c. J K padding label (word r.q m c) in
+      let size : length xs ≡ r.q ^ m = length-table (r.q ^ m) at in
+      let inside : code r.q v < r.q ^ m = code_lt r.q m v is' in
+      let sizes = lawful.sizes in
+      ap (λ t. get_or t (code r.q v) K.group.zero) (front-means K xs (r.q ^ m) old new fronts size)
+      ∙ get_or_append_left xs (drop (r.q ^ m) (map K.means old)) K.group.zero (code r.q v) (omega (arith, size, inside))
+      ∙ get_or-table (r.q ^ m) at K.group.zero (code r.q v) inside
+      ∙ ap (J K padding label) (word-code r.q (omega (arith, sizes.0)) m v is')
+
+  pub crossings_true : (found : Result (Option (ℕ × List ℕ)) Refusal) (old new : List C) → VerdictRight K r d found →
+      FrontMeans K (unless_refused found (crossings K padding (rule_label_list K.group r d))) old new → CrossingsTrue K r d (verdict found) (map K.means new)
+  crossings_true (Ok None) old new right fronts =
+      let sizes = lawful.sizes in
+      only_same K.group (rule_label K.group r d) padding r.q (r.n + d.k - 2) (J K padding (rule_label_list K.group r d)) (λ v. get_or (map K.means new) (code r.q v) K.group.zero)
+      (omega (arith, sizes.0)) (strip_at old new fronts) right.1
+  crossings_true (Ok (Some f)) old new right fronts = tt
+  crossings_true (Err f) old new right fronts = tt
+
+  pub log_true : Weighed d → bench_checked r d ≡ Ok tt → (found : Result (Option (ℕ × List ℕ)) Refusal) (script : List Call) (handed : Strips K.group.Carrier) →
+      VerdictRight K r d found → LogTrue K r d (verdict found) script handed
+  log_true weighed passed (Ok None) script handed right =
+      let whole = scripts_logged K r d handed script in
+      (whole, logs_true K r d lawful weighed passed right.0 (played K r d handed script).log whole)
+  log_true weighed passed (Ok (Some f)) script handed right = tt
+  log_true weighed passed (Err f) script handed right = tt
