@@ -47,9 +47,18 @@ impl<'a, C: Charge> Ledger<'a, C> {
         ensures sites { self.new.sites.now ≡ slice_set self.old.sites.now i charge }
         ensures same { self.new.sites.ghost_name ≡ self.old.sites.ghost_name }
     {
-        if i < self.sites.len() {
-            self.sites[i] = charge;
+        if i >= self.sites.len() {
+            return;
         }
+        self.sites[i] = charge;
+    }
+
+    // The charge of site i and another.
+    fn sum_at(&mut self, i: usize, charge: C) -> C
+        ensures answer { C.kind.means result ≡ C.kind.group.add (slice_index_or (map C.kind.means self.old.sites.now) i C.kind.group.zero) (C.kind.means charge) }
+        ensures kept { self.new ≡ self.old }
+    {
+        self.at(i).plus(charge)
     }
 
     // Adds to the charge of site i.
@@ -57,7 +66,7 @@ impl<'a, C: Charge> Ledger<'a, C> {
         ensures sites { map C.kind.means self.new.sites.now ≡ slice_set (map C.kind.means self.old.sites.now) i (C.kind.group.add (slice_index_or (map C.kind.means self.old.sites.now) i C.kind.group.zero) (C.kind.means charge)) }
         ensures same { self.new.sites.ghost_name ≡ self.old.sites.ghost_name }
     {
-        let sum = self.at(i).plus(charge);
+        let sum = self.sum_at(i, charge);
         self.put(i, sum);
     }
 

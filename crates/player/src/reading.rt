@@ -1,9 +1,9 @@
 // Reading the meters of a site of the open ring.
-ghost use Rattle.std.specs.Prelude.{◌≡◌, []};
+ghost use Rattle.std.specs.Prelude.{◌≡◌, [], Ok};
 ghost use Rattle.fault.specs.Answers.{plainly};
 ghost use Rattle.player.specs.Calls.{checked};
 ghost use Rattle.player.specs.Calls.Call.{reads};
-ghost use Rattle.player.specs.Promises.{strips, read_said, Does};
+ghost use Rattle.player.specs.Promises.{strips, reading_means, read_said, Does};
 
 use crate::ledger::read_strip;
 use crate::meters::Reading;
@@ -34,6 +34,27 @@ impl<C: Charge, R: Rule, D: Density<C>> Playing<C, R, D> {
         self.check_letters(cells)
     }
 
+    // What a read that has passed its tests answers.
+    fn read_on(
+        &self,
+        site: usize,
+        cells: &[u8],
+        opening: &mut [C],
+        crossed: &mut [C],
+        touched: &mut [C],
+    ) -> Reading<C>
+        requires { checked (R.meaning self.now.bench.parts.rule).q self.now.len (reads site) (strips C.kind cells.now [] opening.old crossed.old touched.old) ≡ Ok tt }
+        ensures promise { Does C.kind (R.meaning self.now.bench.parts.rule) (D.weights C.kind self.now.bench.parts.density) self.now.len (reads site) (strips C.kind cells.now [] opening.old crossed.old touched.old) (reading_means C.kind result) (strips C.kind cells.now [] opening.new crossed.new touched.new) }
+        ensures kept { (opening.new ≡ opening.old) × (crossed.new ≡ crossed.old) × (touched.new ≡ touched.old) }
+    {
+        Reading {
+            opening: read_strip(opening, site),
+            crossed: read_strip(crossed, site),
+            touched: read_strip(touched, site),
+            now: self.sites(cells).charge(site),
+        }
+    }
+
     // A site's opening, crossed and touched charges, and its charge now. Nothing is written: the strips of charges are
     // taken for writing, as ledgers take them.
     pub fn read(
@@ -48,11 +69,6 @@ impl<C: Charge, R: Rule, D: Density<C>> Playing<C, R, D> {
         ensures kept { (opening.new ≡ opening.old) × (crossed.new ≡ crossed.old) × (touched.new ≡ touched.old) }
     {
         self.check_read(site, cells, opening, crossed, touched)?;
-        Ok(Reading {
-            opening: read_strip(opening, site),
-            crossed: read_strip(crossed, site),
-            touched: read_strip(touched, site),
-            now: self.sites(cells).charge(site),
-        })
+        Ok(self.read_on(site, cells, opening, crossed, touched))
     }
 }

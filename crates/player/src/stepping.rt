@@ -1,6 +1,7 @@
 // One step of the open ring.
-ghost use Rattle.std.specs.Prelude.{◌≡◌, [], map, take, Ok};
+ghost use Rattle.std.specs.Prelude.{◌≡◌, ◌≤◌, [], map, length, take, Ok};
 ghost use Rattle.fault.specs.Answers.{plainly, front};
+ghost use Rattle.automaton.specs.Making.{ring_checked};
 ghost use Rattle.automaton.specs.Meanings.{next};
 ghost use Rattle.criterion.specs.Strips.{FrontMeans};
 ghost use Rattle.player.specs.Calls.{crossing_at, booked, checked};
@@ -24,7 +25,20 @@ impl<C: Charge, R: Rule, D: Density<C>> Playing<C, R, D> {
         self.check_letters(cells)
     }
 
-    // Books what crosses into each site, keeps the cells in the spare strip, and writes the next letters.
+    // Keeps the cells in the spare strip, and writes the next letters.
+    fn advance(&self, cells: &mut [u8], spare: &mut [u8]) -> Result<(), Fault>
+        requires room { (self.now.len ≤ length cells.old) × (self.now.len ≤ length spare.old) }
+        requires ring { ring_checked (R.meaning self.now.bench.parts.rule).q (length cells.old) (take self.now.len cells.old) ≡ Ok (take self.now.len cells.old) }
+        ensures answer { plainly result ≡ Ok tt }
+        ensures cells { cells.new ≡ front (next (R.meaning self.now.bench.parts.rule) (take self.now.len cells.old)) cells.old }
+        ensures spare { spare.new ≡ front (take self.now.len cells.old) spare.old }
+    {
+        let spare = &mut spare[..self.len];
+        spare.copy_from_slice(&cells[..self.len]);
+        next_ring(self.bench.rule(), spare, cells)
+    }
+
+    // Books what crosses into each site, and advances the cells.
     fn step_on(&self, cells: &mut [u8], spare: &mut [u8], crossed: &mut [C]) -> Result<(), Fault>
         requires { checked (R.meaning self.now.bench.parts.rule).q self.now.len steps (strips C.kind cells.old spare.old [] crossed.old []) ≡ Ok tt }
         ensures answer { plainly result ≡ Ok tt }
@@ -39,9 +53,7 @@ impl<C: Charge, R: Rule, D: Density<C>> Playing<C, R, D> {
                 sites: &self.sites(cells),
             },
         );
-        let spare = &mut spare[..self.len];
-        spare.copy_from_slice(&cells[..self.len]);
-        next_ring(self.bench.rule(), spare, cells)
+        self.advance(cells, spare)
     }
 
     // Adds to crossed, at each site, what crosses into it. Then the cells as they stand go to the spare strip, and the

@@ -1,5 +1,5 @@
 // Putting a letter into a cell of the open ring.
-ghost use Rattle.std.specs.Prelude.{◌≡◌, [], map, take, Ok, Err, if◌then◌else◌, nat_lt, slice_set};
+ghost use Rattle.std.specs.Prelude.{◌≡◌, ◌≤◌, [], map, length, take, Ok, Err, if◌then◌else◌, nat_lt, slice_set};
 ghost use Rattle.fault.specs.declared.Stop.TheVariants.{BadLetter};
 ghost use Rattle.fault.specs.Answers.{plainly};
 ghost use Rattle.fault.specs.Refusals.{refused_at};
@@ -11,10 +11,32 @@ ghost use Rattle.player.specs.Promises.{strips, done_said, Does, Stays};
 
 use crate::ledger::book_front;
 use crate::playing::Playing;
-use crate::sites::{Charges, Opposites};
+use crate::sites::{Charges, Opposites, Sites};
 use automaton::{Density, Rule};
 use charge::Charge;
 use fault::{Fault, Stop};
+
+// Adds to touched each site's charge.
+fn book_sites<C: Charge, R: Rule, D: Density<C>>(
+    sites: &Sites<'_, '_, C, R, D>,
+    touched: &mut [C],
+)
+    requires { length sites.now.ring.cells.now ≤ length touched.old }
+    ensures { FrontMeans C.kind (booked C.kind.group (charges C.kind (R.meaning sites.now.bench.now.parts.rule) (D.weights C.kind sites.now.bench.now.parts.density) sites.now.ring.cells.now) (take (length sites.now.ring.cells.now) (map C.kind.means touched.old))) touched.old touched.new }
+{
+    book_front(sites.ring.cells.len(), touched, &Charges { sites });
+}
+
+// Takes from touched each site's charge.
+fn unbook_sites<C: Charge, R: Rule, D: Density<C>>(
+    sites: &Sites<'_, '_, C, R, D>,
+    touched: &mut [C],
+)
+    requires { length sites.now.ring.cells.now ≤ length touched.old }
+    ensures { FrontMeans C.kind (booked C.kind.group (λ i. C.kind.group.neg (charges C.kind (R.meaning sites.now.bench.now.parts.rule) (D.weights C.kind sites.now.bench.now.parts.density) sites.now.ring.cells.now i)) (take (length sites.now.ring.cells.now) (map C.kind.means touched.old))) touched.old touched.new }
+{
+    book_front(sites.ring.cells.len(), touched, &Opposites { sites });
+}
 
 impl<C: Charge, R: Rule, D: Density<C>> Playing<C, R, D> {
     // The refusal of a touch by its letter, which comes after those of the cells.
@@ -43,21 +65,9 @@ impl<C: Charge, R: Rule, D: Density<C>> Playing<C, R, D> {
         ensures cells { cells.new ≡ slice_set cells.old site letter }
         ensures touched { FrontMeans C.kind (booked C.kind.group (λ j. minus C.kind.group (charges C.kind (R.meaning self.now.bench.parts.rule) (D.weights C.kind self.now.bench.parts.density) (slice_set (take self.now.len cells.old) site letter) j) (charges C.kind (R.meaning self.now.bench.parts.rule) (D.weights C.kind self.now.bench.parts.density) (take self.now.len cells.old) j)) (take self.now.len (map C.kind.means touched.old))) touched.old touched.new }
     {
-        book_front(
-            self.len,
-            touched,
-            &Opposites {
-                sites: &self.sites(cells),
-            },
-        );
+        unbook_sites(&self.sites(cells), touched);
         cells[site] = letter;
-        book_front(
-            self.len,
-            touched,
-            &Charges {
-                sites: &self.sites(cells),
-            },
-        );
+        book_sites(&self.sites(cells), touched);
     }
 
     // Puts a letter into a cell. At each site it adds to touched the site's charge afterwards less its charge before.

@@ -7,6 +7,7 @@ returns-clause-sites g c =
     let K = g.C.Charge.kind in
     let i = c.args.i in
     let old = c.args.self.now.sites.now in
-    ap (map K.means) (c.put.ensures.sites ∙ ap (λ l. set l.sites.now i c.plus-sum.result) c.at.ensures.kept)
-    ∙ map-set K.means old i c.plus-sum.result
-    ∙ ap (λ x. set (map K.means old) i x) (c.plus-sum.ensures ∙ ap (λ x. K.group.add x (K.means c.args.charge)) c.at.ensures.answer)
+    let sum = c.sum_at-sum.result in
+    ap (map K.means) (c.put.ensures.sites ∙ ap (λ l. set l.sites.now i sum) c.sum_at-sum.ensures.kept)
+    ∙ map-set K.means old i sum
+    ∙ ap (λ x. set (map K.means old) i x) c.sum_at-sum.ensures.answer

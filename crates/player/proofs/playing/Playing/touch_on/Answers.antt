@@ -1,5 +1,5 @@
-use Rattle.std.proofs.Common.{ℕ, List, [], map, take, set, sym, ◌∙◌, subst, arith}
-use Rattle.std.proofs.lemmas.List.{length-map}
+use Rattle.std.proofs.Common.{ℕ, length, List, [], map, take, set, ◌≡◌, sym, ◌∙◌, subst, arith}
+use Rattle.std.proofs.lemmas.List.{length-map, length-take-le, length-set}
 use Rattle.std.proofs.Math.Seq.{take-set-lt}
 use Rattle.automaton.specs.Words.{Letters}
 use Rattle.automaton.specs.Meanings.{Local, Weights}
@@ -39,10 +39,15 @@ returns-clause-touched g c =
     let r = g.R.Rule.meaning a.self.now.bench.parts.rule in
     let d = g.D.Density.weights K a.self.now.bench.parts.density in
     let fit = touches_fit r.q L a.site a.letter (strips K a.cells.now [] [] [] a.touched.now) c.requires in
+    let size : length (take L a.cells.now) ≡ L = length-take-le L a.cells.now fit.0 in
     let made = c.sites.ensures in
     let made-2 = c.sites-2.ensures in
-    front-twice K (charges K r d (take L a.cells.now)) (charges K r d (set (take L a.cells.now) a.site a.letter)) L a.touched.now c.book_front.new.strip c.book_front-2.new.strip (omega (arith, fit.1, length-map a.touched.now K.means))
-    (subst (λ x. FrontMeans K (booked K.group (λ i. K.group.neg (at x i)) (take L (map K.means a.touched.now))) a.touched.now c.book_front.new.strip)
-    (λ j. (g.R.Rule.meaning (made.bench j).parts.rule, g.D.Density.weights K (made.bench j).parts.density, made.ring j)) c.book_front.ensures)
-    (subst (λ x. FrontMeans K (booked K.group (at x) (take L (map K.means c.book_front.new.strip))) c.book_front.new.strip c.book_front-2.new.strip)
-    (λ j. (g.R.Rule.meaning (made-2.bench j).parts.rule, g.D.Density.weights K (made-2.bench j).parts.density, (made-2.ring ∙ take-set-lt L a.cells.now a.site a.letter fit.2) j)) c.book_front-2.ensures)
+    let mid = c.unbook_sites.new.touched in
+    front-twice K (charges K r d (take L a.cells.now)) (charges K r d (set (take L a.cells.now) a.site a.letter)) L a.touched.now mid c.book_sites.new.touched (omega (arith, fit.1, length-map a.touched.now K.means))
+    (subst (λ n. FrontMeans K (booked K.group (λ i. K.group.neg (charges K r d (take L a.cells.now) i)) (take n (map K.means a.touched.now))) a.touched.now mid) size
+    (subst (λ x. FrontMeans K (booked K.group (λ i. K.group.neg (at x i)) (take (length x.2) (map K.means a.touched.now))) a.touched.now mid)
+    (λ j. (g.R.Rule.meaning (made.bench j).parts.rule, g.D.Density.weights K (made.bench j).parts.density, made.ring j)) c.unbook_sites.ensures))
+    (subst (λ n. FrontMeans K (booked K.group (charges K r d (set (take L a.cells.now) a.site a.letter)) (take n (map K.means mid))) mid c.book_sites.new.touched)
+    (length-set (take L a.cells.now) a.site a.letter ∙ size)
+    (subst (λ x. FrontMeans K (booked K.group (at x) (take (length x.2) (map K.means mid))) mid c.book_sites.new.touched)
+    (λ j. (g.R.Rule.meaning (made-2.bench j).parts.rule, g.D.Density.weights K (made-2.bench j).parts.density, (made-2.ring ∙ take-set-lt L a.cells.now a.site a.letter fit.2) j)) c.book_sites.ensures))

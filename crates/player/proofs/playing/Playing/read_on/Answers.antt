@@ -2,10 +2,10 @@ use Rattle.std.proofs.Common.{[], sym}
 use Rattle.player.specs.Calls.Call.{reads}
 use Rattle.player.specs.Promises.{strips}
 use Rattle.player.proofs.Passed.{letters_passed}
-use Rattle.player.proofs.playing.Playing.read.Goals as goal
+use Rattle.player.proofs.playing.Playing.read_on.Goals as goal
 
 pub sites-requires-clause-letters : goal.sites-requires-clause-letters
 sites-requires-clause-letters g c =
     let K = g.C.Charge.kind in
     let a = c.args in
-    letters_passed (g.R.Rule.meaning a.self.now.bench.parts.rule).q a.self.now.len (reads a.site) (strips K a.cells.now [] a.opening.now a.crossed.now a.touched.now) (sym c.in_ok-check_read.ensures)
+    letters_passed (g.R.Rule.meaning a.self.now.bench.parts.rule).q a.self.now.len (reads a.site) (strips K a.cells.now [] a.opening.now a.crossed.now a.touched.now) c.requires
