@@ -5,10 +5,16 @@
 ghost use Rattle.std.specs.Prelude.{◌≡◌, OnOk, OnErr};
 ghost use Rattle.std.specs.Process.{exit_status};
 
+mod script;
+mod session;
+
+use crate::script::{ScriptLine, script_line};
+use crate::session::{SessionError, play_session};
 use console::{ShowError, encode_page, show_preset};
 use fault::Fault;
 use report::{Line, compare_line, crossings_page, judge_line};
-use std::io::Write;
+use preset::Strips;
+use std::io::{BufRead, BufReader, BufWriter, Write};
 use std::process::ExitCode;
 use std::rt::Files;
 use std::{env, fs, io};
@@ -145,6 +151,51 @@ fn compare(rt: &HostRuntime, first: &str, second: &str) -> Result<(), Failed> {
     }
 }
 
+// The lines of a script on standard input.
+fn read_script(rt: &HostRuntime) -> io::Result<Vec<ScriptLine>> {
+    let alloc = rt.alloc();
+    let mut script = Vec::new(alloc);
+    for (i, line) in BufReader::new(alloc, rt.stdin())?.lines(alloc).enumerate() {
+        if let Some(line) = script_line(alloc, i.saturating_add(1), line?.as_str())? {
+            script.push(line)?;
+        }
+    }
+    Ok(script)
+}
+
+// Says why a session is not played or a ring not run.
+fn complain_of(rt: &HostRuntime, path: &str, error: SessionError) -> Result<(), Failed> {
+    match error {
+        SessionError::Refused(fault) => refuse(rt, fault),
+        SessionError::Breaks => {
+            println!(rt; "{path}\tbreaks")?;
+            Err(Failed)
+        }
+        SessionError::Io(error) => {
+            eprintln!(rt; "ringbench: {error}")?;
+            Err(Failed)
+        }
+    }
+}
+
+// Plays the script on standard input on a preset.
+fn play(rt: &HostRuntime, path: &str) -> Result<(), Failed> {
+    let bytes = read_file(rt, path)?;
+    let script = read_script(rt)?;
+    let mut strips = Strips::new();
+    let preset = match strips.read(&bytes) {
+        Ok(preset) => preset,
+        Err(fault) => return refuse(rt, fault),
+    };
+    let mut out = BufWriter::new(rt.alloc(), rt.stdout())?;
+    let played = play_session(rt.alloc(), &mut out, preset, &script);
+    out.flush()?;
+    match played {
+        Ok(()) => Ok(()),
+        Err(error) => complain_of(rt, path, error),
+    }
+}
+
 fn usage(rt: &HostRuntime) -> Result<(), Failed> {
     eprint!(rt; "{USAGE}")?;
     Err(Failed)
@@ -165,6 +216,7 @@ fn obey(rt: &HostRuntime, words: &[String]) -> Result<(), Failed> {
         ("crossings", [preset]) => crossings(rt, preset.as_str()),
         ("compare", [first, second]) => compare(rt, first.as_str(), second.as_str()),
         ("judge", [_, ..]) => judge(rt, rest),
+        ("play", [preset]) => play(rt, preset.as_str()),
         _ => usage(rt),
     }
 }
