@@ -1,14 +1,16 @@
-// The program: presets shown as text, text encoded as presets, and presets judged and compared. The work is in the
-// crates `console` and `report`.
+// The program: presets shown as text, text encoded as presets, presets judged and compared, and rings played on them. The
+// work is in the crates `console`, `report` and `player`.
 #![tactic(auto)]
 
 ghost use Rattle.std.specs.Prelude.{◌≡◌, OnOk, OnErr};
 ghost use Rattle.std.specs.Process.{exit_status};
 
+mod rows;
 mod script;
 mod session;
 
-use crate::script::{ScriptLine, script_line};
+use crate::rows::{RingRun, run_ring};
+use crate::script::{ScriptLine, letters, script_line, steps};
 use crate::session::{SessionError, play_session};
 use console::{ShowError, encode_page, show_preset};
 use fault::Fault;
@@ -27,6 +29,10 @@ usage: ringbench COMMAND
   judge PRESET...        print a line for each preset: whether no ring changes its total
   crossings PRESET       print what crosses at each word, one line a word
   compare PRESET PRESET  print whether two presets' densities have the same total on every ring
+  play PRESET            play the script on standard input: open RING, step [N], touch SITE LETTER,
+                         read SITE, arc SITE LENGTH, meters, close; # starts a comment
+  run PRESET RING STEPS [--meters]
+                         print the ring, one row a step, and what has crossed into each site
   help                   print this page
 ";
 
@@ -178,7 +184,7 @@ fn complain_of(rt: &HostRuntime, path: &str, error: SessionError) -> Result<(), 
     }
 }
 
-// Plays the script on standard input on a preset.
+// Plays the script on standard input on a preset. A line that is no command does not stop the others.
 fn play(rt: &HostRuntime, path: &str) -> Result<(), Failed> {
     let bytes = read_file(rt, path)?;
     let script = read_script(rt)?;
@@ -191,6 +197,39 @@ fn play(rt: &HostRuntime, path: &str) -> Result<(), Failed> {
     let played = play_session(rt.alloc(), &mut out, preset, &script);
     out.flush()?;
     match played {
+        Ok(()) if script.iter().all(|line| line.command.is_some()) => Ok(()),
+        Ok(()) => Err(Failed),
+        Err(error) => complain_of(rt, path, error),
+    }
+}
+
+// Runs a ring on a preset.
+fn run_rows(
+    rt: &HostRuntime,
+    path: &str,
+    ring: &str,
+    count: &str,
+    meters: bool,
+) -> Result<(), Failed> {
+    let alloc = rt.alloc();
+    let (Ok(Some(ring)), Some(steps)) = (letters(alloc, ring), steps(count)) else {
+        return usage(rt);
+    };
+    let bytes = read_file(rt, path)?;
+    let mut strips = Strips::new();
+    let preset = match strips.read(&bytes) {
+        Ok(preset) => preset,
+        Err(fault) => return refuse(rt, fault),
+    };
+    let run = RingRun {
+        ring: &ring,
+        steps,
+        meters,
+    };
+    let mut out = BufWriter::new(alloc, rt.stdout())?;
+    let told = run_ring(alloc, &mut out, preset, run);
+    out.flush()?;
+    match told {
         Ok(()) => Ok(()),
         Err(error) => complain_of(rt, path, error),
     }
@@ -217,6 +256,12 @@ fn obey(rt: &HostRuntime, words: &[String]) -> Result<(), Failed> {
         ("compare", [first, second]) => compare(rt, first.as_str(), second.as_str()),
         ("judge", [_, ..]) => judge(rt, rest),
         ("play", [preset]) => play(rt, preset.as_str()),
+        ("run", [preset, ring, count]) => {
+            run_rows(rt, preset.as_str(), ring.as_str(), count.as_str(), false)
+        }
+        ("run", [preset, ring, count, flag]) if flag.as_str() == "--meters" => {
+            run_rows(rt, preset.as_str(), ring.as_str(), count.as_str(), true)
+        }
         _ => usage(rt),
     }
 }

@@ -89,7 +89,7 @@ fn call_count(command: &Command, sites: usize) -> usize {
 }
 
 // A charge as a word.
-fn word<C: Sent>(charge: C) -> EntryWord {
+pub(crate) fn word<C: Sent>(charge: C) -> EntryWord {
     EntryWord {
         kind: C::kind(),
         entry: charge.to_entry(),
@@ -111,13 +111,25 @@ fn readings<C: Sent>(
     Ok(readings)
 }
 
+// The first of some answers that is not that the call is done, or that all are.
+fn first_undone<C: Sent>(answers: &[Option<Answer<C>>]) -> Option<Answer<C>> {
+    for answer in answers {
+        if !matches!(answer, Some(Answer::Done)) {
+            return *answer;
+        }
+    }
+    Some(Answer::Done)
+}
+
+// What a call was answered. One that has no answer was not allowed, since no ring was open, or since one was.
 fn write_answer<C: Sent, W: Write>(
     out: &mut W,
     words: &str,
-    answer: Option<Answer<C>>,
+    answers: &[Option<Answer<C>>],
 ) -> io::Result<()> {
-    match answer {
-        None => writeln!(out, "{words}: not now"),
+    match first_undone(answers) {
+        None if words.starts_with("open") => writeln!(out, "{words}: a ring is open"),
+        None => writeln!(out, "{words}: no ring is open"),
         Some(Answer::Done) => writeln!(out, "{words}: done"),
         Some(Answer::Refused(fault)) => writeln!(out, "{words}: {fault}"),
         Some(Answer::Reading(reading)) => {
@@ -133,16 +145,6 @@ fn write_answer<C: Sent, W: Write>(
     }
 }
 
-// The answer of several calls that do the same: the first that is not done, or that all are.
-fn first_undone<C: Sent>(answers: &[Option<Answer<C>>]) -> Option<Answer<C>> {
-    for answer in answers {
-        if !matches!(answer, Some(Answer::Done)) {
-            return *answer;
-        }
-    }
-    Some(Answer::Done)
-}
-
 // The table of all sites, or why there is none.
 fn write_meters<C: Sent, W: Write>(
     out: &mut W,
@@ -151,7 +153,7 @@ fn write_meters<C: Sent, W: Write>(
     readings: &[Reading<C>],
 ) -> io::Result<()> {
     if readings.is_empty() {
-        return write_answer(out, words, answers.first().copied().flatten());
+        return write_answer(out, words, answers);
     }
     writeln!(out, "{words}:")?;
     writeln!(out, "site\topening\tcrossed\ttouched\tnow")?;
@@ -217,7 +219,7 @@ fn write_arc<C: Sent, W: Write>(
 ) -> io::Result<()> {
     let Some(arc) = arc else {
         if sites == 0 {
-            return write_answer(out, words, answers.first().copied().flatten());
+            return write_answer(out, words, answers);
         }
         if site >= sites {
             let fault = Stop::BadPosition.at(0);
@@ -250,7 +252,6 @@ fn write_command<C: Sent, W: Write>(
     answers: &[Option<Answer<C>>],
 ) -> io::Result<()> {
     match command {
-        Command::Step(_) => write_answer(out, words, first_undone(answers)),
         Command::Meters => {
             let readings = readings(alloc, answers)?;
             write_meters(out, words, answers, &readings)
@@ -260,7 +261,7 @@ fn write_command<C: Sent, W: Write>(
             let arc = arc_reading(&readings, *site, *len);
             write_arc(out, words, answers, arc, *site, readings.len())
         }
-        _ => write_answer(out, words, answers.first().copied().flatten()),
+        _ => write_answer(out, words, answers),
     }
 }
 
@@ -317,7 +318,7 @@ fn charges<C: Sent>(alloc: Global, preset: Loaded<'_>) -> Result<Vec<C>, AllocEr
 }
 
 // The answers to some calls on rings of up to `sites` cells.
-fn answers_to<C: Sent>(
+pub(crate) fn answers_to<C: Sent>(
     alloc: Global,
     preset: Loaded<'_>,
     calls: &[Call<'_>],
