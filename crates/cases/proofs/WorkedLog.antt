@@ -6,6 +6,7 @@ use Rattle.automaton.proofs.Passes.{ring-letters}
 use Rattle.bench.specs.Laws.{KeepsTotal}
 use Rattle.bench.proofs.Rights.{verdict_right}
 use Rattle.player.specs.Logs.{WithoutGaps}
+use Rattle.player.proofs.Logs.{logs_true}
 use Rattle.cases.specs.WorkedLog.{rule_184, letter_count, log_184, WorkedLog}
 
 lawful_184 : Lawful rule_184
@@ -43,4 +44,11 @@ no_gaps_184 =
     also record { order = refl; promise = refl; no_gap = λ x. refl }
 
 pub worked_log : WorkedLog
-worked_log = record { lawful = lawful_184; weighed = letters_weighed; bench = refl; keeps = keeps_184; no_gaps = no_gaps_184 }
+worked_log = record {
+  lawful = lawful_184;
+  weighed = letters_weighed;
+  bench = refl;
+  keeps = keeps_184;
+  no_gaps = no_gaps_184;
+  lines = logs_true voices rule_184 letter_count lawful_184 letters_weighed refl keeps_184 log_184 no_gaps_184;
+}

@@ -11,7 +11,7 @@ use Rattle.bench.specs.Verdicts.{bench_checked}
 use Rattle.player.specs.Calls.{Call, Answer, Strips}
 use Rattle.player.specs.Calls.Call.{opens, touches, steps, reads, closes}
 use Rattle.player.specs.Calls.Answer.{done, reading, refused}
-use Rattle.player.specs.Logs.{Line, Log, WithoutGaps}
+use Rattle.player.specs.Logs.{Line, Log, OnEveryLine, WithoutGaps, LineTrue}
 use Rattle.player.specs.Logs.Log.{made, ◌then◌}
 
 -- what a number of voices means
@@ -114,10 +114,11 @@ log_184 =
     then line steps after_open_one done after_step_one
     then line (reads 0) after_step_one (counts 1 0 0 1) after_step_one
 
--- the rule and the density make a bench that holds, and the log has no gaps
+-- the rule and the density make a bench that holds, the log has no gaps, and so each of its lines is true
 pub record WorkedLog : Type 0 where
   pub lawful : Lawful rule_184
   pub weighed : Weighed letter_count
   pub bench : bench_checked rule_184 letter_count ≡ Ok tt
   pub keeps : KeepsTotal voices.group rule_184 letter_count
   pub no_gaps : WithoutGaps voices rule_184 letter_count log_184
+  pub lines : OnEveryLine (LineTrue voices rule_184 letter_count) log_184

@@ -9,6 +9,8 @@ mod judging;
 #[cfg(test)]
 mod number;
 #[cfg(test)]
+mod playing;
+#[cfg(test)]
 mod reading;
 #[cfg(test)]
 mod text;
