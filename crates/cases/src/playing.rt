@@ -79,8 +79,14 @@ fn rule_184_is_played(rt: HostRuntime) {
     let short = playing.touch(1, 1, &mut cells, &mut touched[..3]);
     assert_eq!(rt; short.map_err(numbers), Err((12, 0)));
     assert_eq!(rt; cells, [1, 1, 1, 0, 9]);
-    assert_eq!(rt; crossed, [voices(0), voices(0), voices(1), voices(0), voices(71)]);
-    assert_eq!(rt; touched, [voices(0), voices(1), voices(0), voices(0), voices(72)]);
+    assert_eq!(rt;
+        crossed,
+        [voices(0), voices(0), voices(1), voices(0), voices(71)]
+    );
+    assert_eq!(rt;
+        touched,
+        [voices(0), voices(1), voices(0), voices(0), voices(72)]
+    );
 }
 
 // The refusal of a ring of zeros, if it is refused, on strips that are long enough.

@@ -17,10 +17,7 @@ use charge::Charge;
 use fault::{Fault, Stop};
 
 // Adds to touched each site's charge.
-fn book_sites<C: Charge, R: Rule, D: Density<C>>(
-    sites: &Sites<'_, '_, C, R, D>,
-    touched: &mut [C],
-)
+fn book_sites<C: Charge, R: Rule, D: Density<C>>(sites: &Sites<'_, '_, C, R, D>, touched: &mut [C])
     requires { length sites.now.ring.cells.now ≤ length touched.old }
     ensures { FrontMeans C.kind (booked C.kind.group (charges C.kind (R.meaning sites.now.bench.now.parts.rule) (D.weights C.kind sites.now.bench.now.parts.density) sites.now.ring.cells.now) (take (length sites.now.ring.cells.now) (map C.kind.means touched.old))) touched.old touched.new }
 {

@@ -5,9 +5,8 @@ use charge::{Both, Channels, ChargeKind, Pitch, Voices};
 use player::{Answer, Call};
 use preset::{Loaded, Sent};
 use std::alloc::{AllocError, Global};
-use std::io;
 use std::io::Write;
-use std::mem;
+use std::{io, mem};
 
 // What is run: a ring, for how many steps, and whether the meters are told.
 #[derive(Clone, Copy)]
@@ -37,10 +36,7 @@ fn push_reads(calls: &mut Vec<Call<'_>>, sites: usize) -> Result<(), AllocError>
 }
 
 // What has crossed into each site, of the answers to the calls of one row.
-fn write_crossed<C: Sent, W: Write>(
-    out: &mut W,
-    answers: &[Option<Answer<C>>],
-) -> io::Result<()> {
+fn write_crossed<C: Sent, W: Write>(out: &mut W, answers: &[Option<Answer<C>>]) -> io::Result<()> {
     for answer in answers {
         if let Some(Answer::Reading(reading)) = answer {
             let crossed = word(reading.crossed);

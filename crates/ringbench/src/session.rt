@@ -5,8 +5,8 @@ use bench::{Draft, Verdict};
 use charge::{Both, Channels, ChargeKind, Pitch, Voices, difference};
 use console::EntryWord;
 use criterion::MOST_SHOWN;
-use fault::{Fault, Stop};
 use fault::limits::{MOST_CELLS, MOST_WORDS};
+use fault::{Fault, Stop};
 use player::{Answer, Call, Reading, perform};
 use preset::{Loaded, Sent};
 use std::alloc::{AllocError, Global};
@@ -178,7 +178,11 @@ struct ArcReading<C> {
 }
 
 // The arc of `len` sites from `first` on, which the ring has.
-fn arc_reading<C: Sent>(readings: &[Reading<C>], first: usize, len: usize) -> Option<ArcReading<C>> {
+fn arc_reading<C: Sent>(
+    readings: &[Reading<C>],
+    first: usize,
+    len: usize,
+) -> Option<ArcReading<C>> {
     let count = readings.len();
     if first >= count || len > count {
         return None;

@@ -1,4 +1,4 @@
-use Rattle.std.proofs.Common.{[], sym}
+use Rattle.std.proofs.Common.{[]}
 use Rattle.player.specs.Calls.Call.{reads}
 use Rattle.player.specs.Promises.{strips}
 use Rattle.player.proofs.Passed.{letters_passed}
