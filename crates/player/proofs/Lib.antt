@@ -1,7 +1,7 @@
 pub mod Books
 pub mod Crossings
 pub mod Passed
-pub mod Promises
+pub mod Works
 pub mod Opens
 pub mod Touches
 pub mod Stepped

@@ -126,7 +126,7 @@ module _ {C : Type 0} (K : Kind C) (r : Local) (d : Weights K.group.Carrier) (la
 
   line_shown : (p : Ring K.group.Carrier) → Sound p → (line : Line K.group.Carrier) → GoesOn K r d p line →
       Shown p line.call line.handed (checked r.q (size line.call (length p.cells)) line.call line.handed) line.got
-  line_shown p sound line on = go (checked r.q (size call (length p.cells)) call s) refl line.got on.promise on.no_gap
+  line_shown p sound line on = go (checked r.q (size call (length p.cells)) call s) refl line.got (sym on.promise) on.no_gap
     where
       call : Call
       call = line.call

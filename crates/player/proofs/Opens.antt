@@ -6,12 +6,12 @@ use Rattle.automaton.specs.Words.{table}
 use Rattle.automaton.specs.Meanings.{Local, Weights}
 use Rattle.automaton.proofs.Rings.{length-table}
 use Rattle.criterion.specs.Strips.{FrontMeans}
-use Rattle.player.specs.Calls.{charges, checked, worked}
+use Rattle.player.specs.Calls.{charges, checked, worked, Does}
 use Rattle.player.specs.Calls.Call.{opens}
 use Rattle.player.specs.Calls.Answer.{done}
-use Rattle.player.specs.Promises.{strips, Does}
+use Rattle.player.specs.Answers.{strips}
 use Rattle.player.proofs.Books.{front-means, front-past}
-use Rattle.player.proofs.Promises.{does_work}
+use Rattle.player.proofs.Works.{does_work}
 
 -- a ring `shown` that is the ring that open is given
 module _ {C : Type 0} (K : Kind C) (r : Local) (d : Weights K.group.Carrier) (ring shown cells cells' : List ℕ) (opening crossed touched opening' crossed' touched' : List C) where

@@ -14,7 +14,7 @@ use Rattle.automaton.specs.Words.{Letters}
 use Rattle.automaton.proofs.Passes.{ring-letters}
 use Rattle.player.specs.Calls.{Call, Strips, tests, letters, checked}
 use Rattle.player.specs.Calls.Call.{touches, steps}
-use Rattle.player.specs.Promises.{strips}
+use Rattle.player.specs.Answers.{strips}
 
 -- the second of two tests, where both have passed
 second : {X Y : Type 0} (x : Result X Refusal) (y : Result Y Refusal) (t : Y) → and_then x (λ _. y) ≡ Ok t → y ≡ Ok t

@@ -8,13 +8,13 @@ use Rattle.charge.specs.Groups.{Kind}
 use Rattle.automaton.specs.Meanings.{Local, Weights, next}
 use Rattle.automaton.proofs.Steps.{length-next}
 use Rattle.criterion.specs.Strips.{FrontMeans}
-use Rattle.player.specs.Calls.{crossing_at, booked, checked}
+use Rattle.player.specs.Calls.{crossing_at, booked, checked, Does}
 use Rattle.player.specs.Calls.Call.{steps}
-use Rattle.player.specs.Promises.{strips, done_said, Does, Stays}
+use Rattle.player.specs.Answers.{strips, done_said, Stays}
 use Rattle.player.proofs.Books.{front-means, front-past}
 use Rattle.player.proofs.Kept.{length-booked}
 use Rattle.player.proofs.Passed.{steps_fit}
-use Rattle.player.proofs.Promises.{does_work}
+use Rattle.player.proofs.Works.{does_work}
 
 -- an answer that is no refusal
 passed_is : (x : Result (Unit {0}) Fault) → plainly x ≡ Ok tt → Ok tt ≡ x

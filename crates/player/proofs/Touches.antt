@@ -6,14 +6,14 @@ use Rattle.charge.specs.Groups.{Group, Kind, minus}
 use Rattle.automaton.specs.Meanings.{Local, Weights}
 use Rattle.automaton.proofs.Rings.{get_or-table}
 use Rattle.criterion.specs.Strips.{FrontMeans}
-use Rattle.player.specs.Calls.{charges, booked, checked}
+use Rattle.player.specs.Calls.{charges, booked, checked, Does}
 use Rattle.player.specs.Calls.Call.{touches}
 use Rattle.player.specs.Calls.Answer.{done}
-use Rattle.player.specs.Promises.{strips, Does}
+use Rattle.player.specs.Answers.{strips}
 use Rattle.player.proofs.Books.{front-means, front-past}
 use Rattle.player.proofs.Kept.{length-booked}
 use Rattle.player.proofs.Passed.{touches_fit}
-use Rattle.player.proofs.Promises.{does_work}
+use Rattle.player.proofs.Works.{does_work}
 
 -- a letter that is put into the front of a strip
 set-front : {X : Type 0} (n : ℕ) (xs : List X) (i : ℕ) (x : X) → i < n → set (take n xs) i x ++ drop n xs ≡ set xs i x

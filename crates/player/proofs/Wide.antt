@@ -4,11 +4,11 @@ use Rattle.std.proofs.lemmas.List.{take-append-drop}
 use Rattle.fault.specs.Refusals.{Refusal}
 use Rattle.charge.specs.Groups.{Kind}
 use Rattle.automaton.specs.Meanings.{Local, Weights}
-use Rattle.player.specs.Calls.{Answer, Strips, checked, worked, passed_or, outcome}
+use Rattle.player.specs.Calls.{Answer, Strips, checked, worked, passed_or, outcome, Does}
 use Rattle.player.specs.Calls.Call.{touches, steps}
 use Rattle.player.specs.Calls.Answer.{done, reading, refused}
 use Rattle.player.specs.Logs.{accepted}
-use Rattle.player.specs.Promises.{strips, Does}
+use Rattle.player.specs.Answers.{strips}
 use Rattle.player.specs.Scripts.{left_by, cells_after}
 
 -- a choice between equals

@@ -1,5 +1,5 @@
 -- The calls of a player: when each is refused, what it makes of a ring and its strips, and what it answers. Assumes nothing.
-use Rattle.std.specs.Prelude.{ℕ, suc, ◌+◌, ◌-◌, Bool, ltb, List, [], ◌∷◌, ◌++◌, length, take, drop, set, min, Ok, Err, Result, nat_le, nat_lt, slice_index_or}
+use Rattle.std.specs.Prelude.{◌≡◌, ℕ, suc, ◌+◌, ◌-◌, Bool, ltb, List, [], ◌∷◌, ◌++◌, length, take, drop, set, min, Ok, Err, Result, nat_le, nat_lt, slice_index_or}
 use Rattle.fault.specs.declared.Stop.{Stop}
 use Rattle.fault.specs.declared.Stop.TheVariants.{BadLength, ShortStrip, BadPosition, BadLetter}
 use Rattle.fault.specs.Answers.{and_then}
@@ -172,3 +172,7 @@ module _ {C : Type 0} (K : Kind C) (r : Local) (d : Weights K.group.Carrier) whe
   -- A call on a ring of L cells, by the strips that it is handed. A refused call leaves all as it was.
   abbrev pub outcome : ℕ → Call → Strips K.group.Carrier → Outcome K.group.Carrier
   outcome L call s = passed_or (checked r.q L call s) (worked L call s) (λ f. record { said = refused f; left = s })
+
+  -- the promise of a call: what it answers, and how it leaves the strips
+  abbrev pub Does : ℕ → Call → Strips K.group.Carrier → Answer K.group.Carrier → Strips K.group.Carrier → Type 0
+  Does L call handed said left = outcome L call handed ≡ record { said = said; left = left }

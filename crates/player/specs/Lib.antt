@@ -1,6 +1,6 @@
 pub mod Calls
 pub mod Logs
 pub mod Laws
-pub mod Promises
+pub mod Answers
 pub mod Scripts
 pub mod Whole

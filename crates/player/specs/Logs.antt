@@ -5,7 +5,7 @@ use Rattle.automaton.specs.Words.{round}
 use Rattle.automaton.specs.Meanings.{Local, Weights, Lawful, Weighed}
 use Rattle.bench.specs.Laws.{KeepsTotal}
 use Rattle.bench.specs.Verdicts.{bench_checked}
-use Rattle.player.specs.Calls.{Call, Answer, Ring, Strips, Outcome, size, checked, passed_or, front, charges, work, answer, outcome}
+use Rattle.player.specs.Calls.{Call, Answer, Ring, Strips, Outcome, size, checked, passed_or, front, charges, work, answer, Does}
 use Rattle.player.specs.Calls.Call.{opens, touches, steps, reads, closes}
 use Rattle.player.specs.Calls.Answer.{done, reading, refused}
 
@@ -101,7 +101,7 @@ module _ {C : Type 0} (K : Kind C) (r : Local) (d : Weights K.group.Carrier) whe
   -- is accepted was handed what stands.
   pub record GoesOn (p : Ring K.group.Carrier) (line : Line K.group.Carrier) : Type 0 where
     pub order : allowed line.call (length p.cells) ≡ true
-    pub promise : line.got ≡ outcome K r d (size line.call (length p.cells)) line.call line.handed
+    pub promise : Does K r d (size line.call (length p.cells)) line.call line.handed line.got.said line.got.left
     pub no_gap : Accepted line.got.said → HandedOn line.call line.handed p
 
   abbrev pub WithoutGaps : Log K.group.Carrier → Type 0

@@ -1,8 +1,8 @@
 // Closing the open ring.
 ghost use Rattle.std.specs.Prelude.{◌≡◌};
+ghost use Rattle.player.specs.Calls.{Does};
 ghost use Rattle.player.specs.Calls.Call.{closes};
 ghost use Rattle.player.specs.Calls.Answer.{done};
-ghost use Rattle.player.specs.Promises.{Does};
 
 use crate::playing::Playing;
 use automaton::{Density, Rule};

@@ -4,9 +4,9 @@ ghost use Rattle.fault.specs.Answers.{front};
 ghost use Rattle.fault.specs.Refusals.{refusal};
 ghost use Rattle.automaton.specs.Words.{table};
 ghost use Rattle.criterion.specs.Strips.{FrontMeans};
-ghost use Rattle.player.specs.Calls.{charges, checked};
+ghost use Rattle.player.specs.Calls.{charges, checked, Does};
 ghost use Rattle.player.specs.Calls.Call.{opens};
-ghost use Rattle.player.specs.Promises.{strips, open_said, Does, Stays};
+ghost use Rattle.player.specs.Answers.{strips, open_said, Stays};
 
 use crate::ledger::{book_front, fill_front};
 use crate::playing::Playing;

@@ -14,7 +14,7 @@ ghost use Rattle.bench.specs.Laws.{VerdictRight};
 ghost use Rattle.bench.specs.Verdicts.{judge_found, judging};
 ghost use Rattle.player.specs.Laws.{RefusalsFit, StepsOn};
 ghost use Rattle.player.specs.Logs.{LogsTrue};
-ghost use Rattle.player.specs.Promises.{strips, asked, answered, of_player};
+ghost use Rattle.player.specs.Answers.{strips, asked, answered, of_player};
 ghost use Rattle.player.specs.Whole.{with_answers, VerdictTrue, CrossingsTrue, Plays, ScriptTrue, UnlessHolds};
 
 use crate::call::{Answer, Call};

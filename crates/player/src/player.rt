@@ -1,7 +1,7 @@
 // A bench that holds, as calls move it from state to state.
 ghost use Rattle.std.specs.Prelude.{◌≡◌, ◌≤◌, map, length, take, drop};
 ghost use Rattle.std.specs.Option.{option_map};
-ghost use Rattle.player.specs.Promises.{strips, asked, answered, done_said, read_said, open_cells, of_player};
+ghost use Rattle.player.specs.Answers.{strips, asked, answered, done_said, read_said, open_cells, of_player};
 ghost use Rattle.player.specs.Scripts.{said_to, left_by, cells_after, played};
 
 use crate::call::{Answer, Call};

@@ -1,9 +1,9 @@
 // Reading the meters of a site of the open ring.
 ghost use Rattle.std.specs.Prelude.{◌≡◌, [], Ok};
 ghost use Rattle.fault.specs.Answers.{plainly};
-ghost use Rattle.player.specs.Calls.{checked};
+ghost use Rattle.player.specs.Calls.{checked, Does};
 ghost use Rattle.player.specs.Calls.Call.{reads};
-ghost use Rattle.player.specs.Promises.{strips, reading_means, read_said, Does};
+ghost use Rattle.player.specs.Answers.{strips, reading_means, read_said};
 
 use crate::ledger::read_strip;
 use crate::meters::Reading;

@@ -4,9 +4,9 @@ ghost use Rattle.fault.specs.Answers.{plainly, front};
 ghost use Rattle.automaton.specs.Making.{ring_checked};
 ghost use Rattle.automaton.specs.Meanings.{next};
 ghost use Rattle.criterion.specs.Strips.{FrontMeans};
-ghost use Rattle.player.specs.Calls.{crossing_at, booked, checked};
+ghost use Rattle.player.specs.Calls.{crossing_at, booked, checked, Does};
 ghost use Rattle.player.specs.Calls.Call.{steps};
-ghost use Rattle.player.specs.Promises.{strips, done_said, Does, Stays};
+ghost use Rattle.player.specs.Answers.{strips, done_said, Stays};
 
 use crate::ledger::book_front;
 use crate::playing::Playing;

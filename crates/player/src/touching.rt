@@ -5,9 +5,9 @@ ghost use Rattle.fault.specs.Answers.{plainly};
 ghost use Rattle.fault.specs.Refusals.{refused_at};
 ghost use Rattle.charge.specs.Groups.{minus};
 ghost use Rattle.criterion.specs.Strips.{FrontMeans};
-ghost use Rattle.player.specs.Calls.{charges, booked, checked};
+ghost use Rattle.player.specs.Calls.{charges, booked, checked, Does};
 ghost use Rattle.player.specs.Calls.Call.{touches};
-ghost use Rattle.player.specs.Promises.{strips, done_said, Does, Stays};
+ghost use Rattle.player.specs.Answers.{strips, done_said, Stays};
 
 use crate::ledger::book_front;
 use crate::playing::Playing;

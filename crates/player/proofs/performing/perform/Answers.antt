@@ -2,7 +2,7 @@ use Rattle.std.proofs.Common.{length, map, sym, ◌∙◌, subst}
 use Rattle.automaton.specs.Meanings.{next, total}
 use Rattle.bench.specs.Verdicts.{judge_found}
 use Rattle.bench.proofs.Searches.{sizes-pass}
-use Rattle.player.specs.Promises.{strips, asked}
+use Rattle.player.specs.Answers.{strips, asked}
 use Rattle.player.specs.Whole.{with_answers, VerdictTrue, CrossingsTrue, LogTrue}
 use Rattle.player.proofs.Logs.{logs_true}
 use Rattle.player.proofs.Refusals.{refusals_fit}

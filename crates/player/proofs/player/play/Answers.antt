@@ -1,7 +1,7 @@
 use Rattle.std.proofs.Common.{◌<◌, map, length, take, get_or, sym, ap, ◌∙◌, arith}
 use Rattle.std.specs.Option.{option_map}
 use Rattle.player.specs.Logs.{standing}
-use Rattle.player.specs.Promises.{strips, asked, answered}
+use Rattle.player.specs.Answers.{strips, asked, answered}
 use Rattle.player.specs.Scripts.{said_to, left_by, cells_after}
 use Rattle.player.proofs.Plays.{script_more, answers_more, answers_past}
 use Rattle.player.proofs.Scripts.{cells_stand}

@@ -1,7 +1,7 @@
 use Rattle.std.proofs.Common.{◌≡◌, map, length, take, drop}
 use Rattle.std.specs.Option.{option_map}
 use Rattle.player.specs.Logs.{standing}
-use Rattle.player.specs.Promises.{strips, asked, answered, open_cells, of_player}
+use Rattle.player.specs.Answers.{strips, asked, answered, open_cells, of_player}
 use Rattle.player.specs.Scripts.{played}
 use Rattle.player.proofs.player.play.Given as goal
 

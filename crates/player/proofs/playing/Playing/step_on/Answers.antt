@@ -3,7 +3,7 @@ use Rattle.automaton.specs.Meanings.{Local, Weights}
 use Rattle.criterion.specs.Strips.{FrontMeans}
 use Rattle.player.specs.Calls.{booked, crossing_at}
 use Rattle.player.specs.Calls.Call.{steps}
-use Rattle.player.specs.Promises.{strips}
+use Rattle.player.specs.Answers.{strips}
 use Rattle.player.proofs.Passed.{letters_passed}
 use Rattle.player.proofs.playing.Playing.step_on.Goals as goal
 

@@ -6,7 +6,7 @@ use Rattle.automaton.specs.Meanings.{Local, Weights}
 use Rattle.criterion.specs.Strips.{FrontMeans}
 use Rattle.player.specs.Calls.{booked, charges}
 use Rattle.player.specs.Calls.Call.{touches}
-use Rattle.player.specs.Promises.{strips}
+use Rattle.player.specs.Answers.{strips}
 use Rattle.player.proofs.Passed.{letters_passed, front_below, last_below, touches_fit}
 use Rattle.player.proofs.Kept.{letters_set}
 use Rattle.player.proofs.Touches.{front-twice}

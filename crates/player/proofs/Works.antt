@@ -2,9 +2,8 @@
 use Rattle.std.proofs.Common.{◌≡◌, ℕ, Ok, ap, ◌∙◌}
 use Rattle.charge.specs.Groups.{Kind}
 use Rattle.automaton.specs.Meanings.{Local, Weights}
-use Rattle.player.specs.Calls.{Call, Answer, Strips, checked, worked, passed_or}
+use Rattle.player.specs.Calls.{Call, Answer, Strips, checked, worked, passed_or, Does}
 use Rattle.player.specs.Calls.Answer.{refused}
-use Rattle.player.specs.Promises.{Does}
 
 module _ {C : Type 0} (K : Kind C) (r : Local) (d : Weights K.group.Carrier) where
   pub does_work : (L : ℕ) (call : Call) (handed : Strips K.group.Carrier) (said : Answer K.group.Carrier) (left : Strips K.group.Carrier) → checked r.q L call handed ≡ Ok tt →

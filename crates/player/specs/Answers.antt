@@ -1,9 +1,8 @@
--- What each call promises, of the strips that it is handed. Assumes nothing.
+-- What calls, strips and answers mean. Assumes nothing.
 use Rattle.std.specs.Prelude.{◌≡◌, ℕ, List, map, drop, Ok, Err, Result}
 use Rattle.fault.specs.declared.Fault.{Fault}
 use Rattle.fault.specs.Refusals.{refusal}
 use Rattle.charge.specs.Groups.{Kind}
-use Rattle.automaton.specs.Meanings.{Local, Weights}
 use Rattle.bench.specs.declared.state.Refused.{Refused}
 use Rattle.player.specs.declared.meters.Reading.{Reading}
 use Rattle.player.specs.declared.call.Call.{Call as Asked}
@@ -12,7 +11,7 @@ use Rattle.player.specs.declared.call.Answer.{Answer as Answered}
 use Rattle.player.specs.declared.call.Answer.TheVariants.{Done, Reading as Read_as, Refused as Refused_by}
 use Rattle.player.specs.declared.player.Player.{Player}
 use Rattle.player.specs.declared.player.Player.TheVariants.{Idle, Playing}
-use Rattle.player.specs.Calls.{Call, Answer, Strips, outcome}
+use Rattle.player.specs.Calls.{Call, Answer, Strips}
 use Rattle.player.specs.Calls.Call.{opens, touches, steps, reads, closes}
 use Rattle.player.specs.Calls.Answer.{done, reading, refused}
 
@@ -57,10 +56,6 @@ module _ {C : Type 0} (K : Kind C) where
   abbrev pub open_said : {P S : Type 0} → Result P (Refused S) → Answer K.group.Carrier
   open_said (Ok p) = done
   open_said (Err e) = refused (refusal e.fault)
-
-  -- a call on a ring of L cells answers and leaves the strips as it is defined to
-  abbrev pub Does : Local → Weights K.group.Carrier → ℕ → Call → Strips K.group.Carrier → Answer K.group.Carrier → Strips K.group.Carrier → Type 0
-  Does r d L call handed said left = outcome K r d L call handed ≡ record { said = said; left = left }
 
 -- how many cells the ring has that is open on a bench, none where none is open, and what is kept of the bench
 abbrev pub open_cells : {H P : Type 0} → (P → ℕ) → Player H P → ℕ
