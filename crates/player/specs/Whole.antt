@@ -1,5 +1,5 @@
 -- What performing a script on a drafted bench promises. Assumes nothing.
-use Rattle.std.specs.Prelude.{◌≡◌, ℕ, ◌+◌, ◌-◌, ◌*◌, List, ◌∷◌, [], take, Ok, Err, Option, Result, nat_le, slice_index_or}
+use Rattle.std.specs.Prelude.{◌≡◌, ℕ, ◌+◌, ◌-◌, ◌*◌, List, ◌∷◌, [], length, take, Ok, Err, Option, Result, nat_le, slice_index_or}
 use Rattle.fault.specs.declared.Stop.TheVariants.{ShortStrip}
 use Rattle.fault.specs.Answers.{and_then}
 use Rattle.fault.specs.Checks.{tested}
@@ -15,8 +15,10 @@ use Rattle.bench.specs.Labels.{rule_label}
 use Rattle.bench.specs.Laws.{KeepsTotal, Apart}
 use Rattle.bench.specs.Verdicts.{Judgement}
 use Rattle.bench.specs.Verdicts.Judgement.{holds, breaks}
+use Rattle.player.specs.declared.player.Player.{Player}
+use Rattle.player.specs.Answers.{open_cells}
 use Rattle.player.specs.Calls.{Call, Answer, Strips}
-use Rattle.player.specs.Logs.{OnEveryLine, WithoutGaps, LineTrue}
+use Rattle.player.specs.Logs.{standing, OnEveryLine, WithoutGaps, LineTrue}
 use Rattle.player.specs.Scripts.{played}
 
 -- a script of n calls needs room for n answers, and then what comes next
@@ -39,12 +41,13 @@ module _ {C : Type 0} (K : Kind C) (r : Local) (d : Weights K.group.Carrier) whe
   CrossingsTrue (Ok (breaks b)) strip = Unit {0}
   CrossingsTrue (Err f) strip = Unit {0}
 
-  -- under "holds" the strips and the answers are those of the script's log
+  -- under "holds" the strips, the answers and how many cells the open ring has are those of the script's log
   abbrev pub Plays : Result (Judgement K.group.Carrier) Refusal → List Call → Strips K.group.Carrier → Strips K.group.Carrier →
-      List (Option (Answer K.group.Carrier)) → Type 0
-  Plays (Ok holds) script handed left said = (left ≡ (played K r d handed script).strips) × (said ≡ (played K r d handed script).said)
-  Plays (Ok (breaks b)) script handed left said = Unit {0}
-  Plays (Err f) script handed left said = Unit {0}
+      List (Option (Answer K.group.Carrier)) → ℕ → Type 0
+  Plays (Ok holds) script handed left said cells =
+      let p = played K r d handed script in (left ≡ p.strips) × (said ≡ p.said) × (cells ≡ length (standing p.log).cells)
+  Plays (Ok (breaks b)) script handed left said cells = Unit {0}
+  Plays (Err f) script handed left said cells = Unit {0}
 
   -- and that log has no gaps and is true on every line
   abbrev pub LogTrue : Result (Judgement K.group.Carrier) Refusal → List Call → Strips K.group.Carrier → Type 0
@@ -54,8 +57,14 @@ module _ {C : Type 0} (K : Kind C) (r : Local) (d : Weights K.group.Carrier) whe
   LogTrue (Err f) script handed = Unit {0}
 
   abbrev pub ScriptTrue : Result (Judgement K.group.Carrier) Refusal → List Call → Strips K.group.Carrier → Strips K.group.Carrier →
-      List (Option (Answer K.group.Carrier)) → Type 0
-  ScriptTrue judged script handed left said = Plays judged script handed left said × LogTrue judged script handed
+      List (Option (Answer K.group.Carrier)) → ℕ → Type 0
+  ScriptTrue judged script handed left said cells = Plays judged script handed left said cells × LogTrue judged script handed
+
+-- how many cells the ring has that is open on a bench that holds
+abbrev pub cells_open : {C H P B E : Type 0} → (P → ℕ) → Result (Verdict C (Player H P) B) E → ℕ
+cells_open cells (Ok (Holds p)) = open_cells cells p
+cells_open cells (Ok (Breaks b found)) = 0
+cells_open cells (Err e) = 0
 
 -- what is so unless a bench holds
 abbrev pub UnlessHolds : {C H B E : Type 0} → Result (Verdict C H B) E → Type 0 → Type 0

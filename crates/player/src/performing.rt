@@ -15,7 +15,7 @@ ghost use Rattle.bench.specs.Verdicts.{judge_found, judging};
 ghost use Rattle.player.specs.Laws.{RefusalsFit, StepsOn};
 ghost use Rattle.player.specs.Logs.{LogsTrue};
 ghost use Rattle.player.specs.Answers.{strips, asked, answered, of_player};
-ghost use Rattle.player.specs.Whole.{with_answers, VerdictTrue, CrossingsTrue, Plays, ScriptTrue, UnlessHolds};
+ghost use Rattle.player.specs.Whole.{with_answers, VerdictTrue, CrossingsTrue, Plays, ScriptTrue, cells_open, UnlessHolds};
 
 use crate::call::{Answer, Call};
 use crate::player::{PlayerOf, play};
@@ -48,7 +48,7 @@ fn perform_on<C: Charge, R: Rule, D: Density<C>>(
     ensures past { drop (length script.now) answers.new ≡ drop (length script.now) answers.old }
     ensures unplayed { UnlessHolds result ((cells.new ≡ cells.old) × (spare.new ≡ spare.old) × (opening.new ≡ opening.old) × (crossed.new ≡ crossed.old) × (touched.new ≡ touched.old) × (answers.new ≡ answers.old)) }
     ensures right { VerdictRight C.kind (R.meaning draft.parts.rule) (D.weights C.kind draft.parts.density) (with_answers (length script.now) (length answers.old) (judge_found C.kind (length crossings.old) (length ring.old) (R.meaning draft.parts.rule) (D.weights C.kind draft.parts.density))) }
-    ensures script { Plays C.kind (R.meaning draft.parts.rule) (D.weights C.kind draft.parts.density) (judge_said C.kind result) (map asked script.now) (strips C.kind cells.old spare.old opening.old crossed.old touched.old) (strips C.kind cells.new spare.new opening.new crossed.new touched.new) (map (option_map (answered C.kind)) (take (length script.now) answers.new)) }
+    ensures script { Plays C.kind (R.meaning draft.parts.rule) (D.weights C.kind draft.parts.density) (judge_said C.kind result) (map asked script.now) (strips C.kind cells.old spare.old opening.old crossed.old touched.old) (strips C.kind cells.new spare.new opening.new crossed.new touched.new) (map (option_map (answered C.kind)) (take (length script.now) answers.new)) (cells_open (λ p. p.len) result) }
 {
     if answers.len() < script.len() {
         return Err(Refused {
@@ -90,7 +90,7 @@ pub fn perform<C: Charge, R: Rule, D: Density<C>>(
     ensures verdict { VerdictTrue C.kind (R.meaning draft.parts.rule) (D.weights C.kind draft.parts.density) (judge_said C.kind result) ring.new }
     ensures crossings { CrossingsTrue C.kind (R.meaning draft.parts.rule) (D.weights C.kind draft.parts.density) (judge_said C.kind result) (map C.kind.means crossings.new) }
     ensures logs { LogsTrue C.kind }
-    ensures script { ScriptTrue C.kind (R.meaning draft.parts.rule) (D.weights C.kind draft.parts.density) (judge_said C.kind result) (map asked script.now) (strips C.kind cells.old spare.old opening.old crossed.old touched.old) (strips C.kind cells.new spare.new opening.new crossed.new touched.new) (map (option_map (answered C.kind)) (take (length script.now) answers.new)) }
+    ensures script { ScriptTrue C.kind (R.meaning draft.parts.rule) (D.weights C.kind draft.parts.density) (judge_said C.kind result) (map asked script.now) (strips C.kind cells.old spare.old opening.old crossed.old touched.old) (strips C.kind cells.new spare.new opening.new crossed.new touched.new) (map (option_map (answered C.kind)) (take (length script.now) answers.new)) (cells_open (λ p. p.len) result) }
     ensures laws { RefusalsFit C.kind × StepsOn C.kind }
 {
     perform_on(

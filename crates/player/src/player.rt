@@ -2,6 +2,7 @@
 ghost use Rattle.std.specs.Prelude.{◌≡◌, ◌≤◌, map, length, take, drop};
 ghost use Rattle.std.specs.Option.{option_map};
 ghost use Rattle.player.specs.Answers.{strips, asked, answered, done_said, read_said, open_cells, of_player};
+ghost use Rattle.player.specs.Logs.{standing};
 ghost use Rattle.player.specs.Scripts.{said_to, left_by, cells_after, played};
 
 use crate::call::{Answer, Call};
@@ -139,6 +140,7 @@ pub(crate) fn play<C: Charge, R: Rule, D: Density<C>>(
     ensures strips { strips C.kind cells.new spare.new opening.new crossed.new touched.new ≡ (played C.kind (R.meaning bench.parts.rule) (D.weights C.kind bench.parts.density) (strips C.kind cells.old spare.old opening.old crossed.old touched.old) (map asked script.now)).strips }
     ensures answers { map (option_map (answered C.kind)) (take (length script.now) answers.new) ≡ (played C.kind (R.meaning bench.parts.rule) (D.weights C.kind bench.parts.density) (strips C.kind cells.old spare.old opening.old crossed.old touched.old) (map asked script.now)).said }
     ensures past { drop (length script.now) answers.new ≡ drop (length script.now) answers.old }
+    ensures cells { open_cells (λ p. p.len) result ≡ length (standing (played C.kind (R.meaning bench.parts.rule) (D.weights C.kind bench.parts.density) (strips C.kind cells.old spare.old opening.old crossed.old touched.old) (map asked script.now)).log).cells }
 {
     let mut player = Player::Idle(bench);
     for (i, call) in script.iter().enumerate() {
