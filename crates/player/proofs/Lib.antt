@@ -1,3 +1,4 @@
+pub mod Arcs
 pub mod Books
 pub mod Crossings
 pub mod Passed

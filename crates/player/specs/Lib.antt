@@ -1,5 +1,6 @@
 pub mod Calls
 pub mod Logs
+pub mod Arcs
 pub mod Laws
 pub mod Answers
 pub mod Scripts

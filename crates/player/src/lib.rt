@@ -1,6 +1,7 @@
 // The player: rings with meters, opened from a bench that holds. Assumes nothing.
 #![tactic(auto)]
 
+mod arc;
 mod call;
 mod checking;
 mod closing;
@@ -15,6 +16,7 @@ mod sites;
 mod stepping;
 mod touching;
 
+pub use arc::ArcReading;
 pub use call::{Answer, Call};
 pub use ledger::Ledger;
 pub use meters::Reading;

@@ -2,12 +2,12 @@
 use crate::script::{Command, ScriptLine};
 use automaton::{TableDensity, TableRule};
 use bench::{Draft, Verdict};
-use charge::{Both, Channels, ChargeKind, Pitch, Voices, difference};
+use charge::{Both, Channels, ChargeKind, Pitch, Voices};
 use console::EntryWord;
 use criterion::MOST_SHOWN;
 use fault::limits::{MOST_CELLS, MOST_WORDS};
 use fault::{Fault, Stop};
-use player::{Answer, Call, Reading, perform};
+use player::{Answer, ArcReading, Call, Reading, perform};
 use preset::{Loaded, Sent};
 use std::alloc::{AllocError, Global};
 use std::io;
@@ -39,9 +39,10 @@ impl From<AllocError> for SessionError {
     }
 }
 
-// How many cells the longest ring of a script has that may be opened.
+// How many cells the longest ring of a script has that may be opened, and at least one, so that a script that opens none
+// has a call for each command.
 fn longest_ring(script: &[ScriptLine]) -> usize {
-    let mut longest = 0;
+    let mut longest = 1;
     for line in script {
         if let Some(Command::Open(ring)) = &line.command {
             longest = longest.max(ring.len().min(MOST_CELLS));
@@ -167,51 +168,6 @@ fn write_meters<C: Sent, W: Write>(
     Ok(())
 }
 
-// An arc of the ring: its charges at opening, touched and now, and what crossed into it and out of it.
-#[derive(Clone, Copy)]
-struct ArcReading<C> {
-    opening: C,
-    into: C,
-    out: C,
-    touched: C,
-    now: C,
-}
-
-// The arc of `len` sites from `first` on, which the ring has.
-fn arc_reading<C: Sent>(
-    readings: &[Reading<C>],
-    first: usize,
-    len: usize,
-) -> Option<ArcReading<C>> {
-    let count = readings.len();
-    if first >= count || len > count {
-        return None;
-    }
-    let end = first.checked_add(len)?;
-    let mut arc = ArcReading {
-        opening: C::zero(),
-        into: readings.get(first)?.crossed,
-        out: readings.get(end % count)?.crossed,
-        touched: C::zero(),
-        now: C::zero(),
-    };
-    for site in first..end {
-        let reading = readings.get(site % count)?;
-        arc.opening = arc.opening.plus(reading.opening);
-        arc.touched = arc.touched.plus(reading.touched);
-        arc.now = arc.now.plus(reading.now);
-    }
-    Some(arc)
-}
-
-impl<C: Sent> ArcReading<C> {
-    // Whether the charge now is that at opening, with what crossed in and less what crossed out, and what was touched.
-    fn adds_up(self) -> bool {
-        let moved = self.opening.plus(difference(self.into, self.out));
-        moved.plus(self.touched).same(self.now)
-    }
-}
-
 // An arc, or why there is none: no ring is open, or its first site is not on the ring, or it is longer than the ring.
 fn write_arc<C: Sent, W: Write>(
     out: &mut W,
@@ -262,7 +218,7 @@ fn write_command<C: Sent, W: Write>(
         }
         Command::Arc { site, len } => {
             let readings = readings(alloc, answers)?;
-            let arc = arc_reading(&readings, *site, *len);
+            let arc = ArcReading::over(&readings, *site, *len);
             write_arc(out, words, answers, arc, *site, readings.len())
         }
         _ => write_answer(out, words, answers),
