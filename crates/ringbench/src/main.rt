@@ -169,38 +169,55 @@ fn read_script(rt: &HostRuntime) -> io::Result<Vec<ScriptLine>> {
     Ok(script)
 }
 
-// Says why a session is not played or a ring not run.
-fn complain_of(rt: &HostRuntime, path: &str, error: SessionError) -> Result<(), Failed> {
-    match error {
-        SessionError::Refused(fault) => refuse(rt, fault),
-        SessionError::Breaks => {
-            println!(rt; "{path}\tbreaks")?;
-            Err(Failed)
-        }
-        SessionError::Io(error) => {
-            eprintln!(rt; "ringbench: {error}")?;
-            Err(Failed)
-        }
+// Fails where a session was not played or a ring not run, and says why.
+fn tell_session(
+    rt: &HostRuntime,
+    path: &str,
+    outcome: Result<(), SessionError>,
+) -> Result<(), Failed> {
+    match outcome {
+        Ok(()) => return Ok(()),
+        Err(SessionError::Refused(fault)) => return refuse(rt, fault),
+        Err(SessionError::Breaks) => println!(rt; "{path}\tbreaks")?,
+        Err(SessionError::Io(error)) => eprintln!(rt; "ringbench: {error}")?,
     }
+    Err(Failed)
+}
+
+fn play_bytes(rt: &HostRuntime, bytes: &[u8], script: &[ScriptLine]) -> Result<(), SessionError> {
+    let mut strips = Strips::new();
+    let preset = strips.read(bytes)?;
+    let mut out = BufWriter::new(rt.alloc(), rt.stdout())?;
+    play_session(rt.alloc(), &mut out, preset, script)?;
+    out.flush()?;
+    Ok(())
 }
 
 // Plays the script on standard input on a preset. A line that is no command does not stop the others.
 fn play(rt: &HostRuntime, path: &str) -> Result<(), Failed> {
     let bytes = read_file(rt, path)?;
-    let script = read_script(rt)?;
-    let mut strips = Strips::new();
-    let preset = match strips.read(&bytes) {
-        Ok(preset) => preset,
-        Err(fault) => return refuse(rt, fault),
+    let script = match read_script(rt) {
+        Ok(script) => script,
+        Err(error) => {
+            eprintln!(rt; "ringbench: the script cannot be read: {error}")?;
+            return Err(Failed);
+        }
     };
-    let mut out = BufWriter::new(rt.alloc(), rt.stdout())?;
-    let played = play_session(rt.alloc(), &mut out, preset, &script);
-    out.flush()?;
-    match played {
-        Ok(()) if script.iter().all(|line| line.command.is_some()) => Ok(()),
-        Ok(()) => Err(Failed),
-        Err(error) => complain_of(rt, path, error),
+    tell_session(rt, path, play_bytes(rt, &bytes, &script))?;
+    if script.iter().all(|line| line.command.is_some()) {
+        Ok(())
+    } else {
+        Err(Failed)
     }
+}
+
+fn run_bytes(rt: &HostRuntime, bytes: &[u8], run: RingRun<'_>) -> Result<(), SessionError> {
+    let mut strips = Strips::new();
+    let preset = strips.read(bytes)?;
+    let mut out = BufWriter::new(rt.alloc(), rt.stdout())?;
+    run_ring(rt.alloc(), &mut out, preset, run)?;
+    out.flush()?;
+    Ok(())
 }
 
 // Runs a ring on a preset.
@@ -211,28 +228,16 @@ fn run_rows(
     count: &str,
     meters: bool,
 ) -> Result<(), Failed> {
-    let alloc = rt.alloc();
-    let (Ok(Some(ring)), Some(steps)) = (letters(alloc, ring), steps(count)) else {
+    let (Ok(Some(ring)), Some(steps)) = (letters(rt.alloc(), ring), steps(count)) else {
         return usage(rt);
     };
     let bytes = read_file(rt, path)?;
-    let mut strips = Strips::new();
-    let preset = match strips.read(&bytes) {
-        Ok(preset) => preset,
-        Err(fault) => return refuse(rt, fault),
-    };
     let run = RingRun {
         ring: &ring,
         steps,
         meters,
     };
-    let mut out = BufWriter::new(alloc, rt.stdout())?;
-    let told = run_ring(alloc, &mut out, preset, run);
-    out.flush()?;
-    match told {
-        Ok(()) => Ok(()),
-        Err(error) => complain_of(rt, path, error),
-    }
+    tell_session(rt, path, run_bytes(rt, &bytes, run))
 }
 
 fn usage(rt: &HostRuntime) -> Result<(), Failed> {
