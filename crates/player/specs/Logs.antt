@@ -84,6 +84,23 @@ OnEveryLine P (log then line) = OnEveryLine P log × P log line
 abbrev pub arc : (G : Group) → (ℕ → G.Carrier) → ℕ → ℕ → G.Carrier
 arc G f a n = sum G (λ t. f (a + t)) n
 
+-- what the meters say of an arc: its charge at opening, what crossed in and out, what was touched, and its charge now
+pub record ArcMeters (A : Type 0) : Type 0 where
+  pub opening : A
+  pub into : A
+  pub out : A
+  pub touched : A
+  pub now : A
+
+-- by the meters of each site: what crosses in is crossed at site a, and what crosses out at the site after the last
+abbrev pub arc_meters : (G : Group) → (opening crossed touched now : ℕ → G.Carrier) → ℕ → ℕ → ArcMeters G.Carrier
+arc_meters G opening crossed touched now a n =
+    record { opening = arc G opening a n; into = crossed a; out = crossed (a + n); touched = arc G touched a n; now = arc G now a n }
+
+-- the charge now is that at opening, plus what crossed in, less what crossed out, plus what was touched
+abbrev pub AddsUp : (G : Group) → ArcMeters G.Carrier → Type 0
+AddsUp G m = m.now ≡ G.add (G.add m.opening (minus G m.into m.out)) m.touched
+
 module _ {C : Type 0} (K : Kind C) (r : Local) (d : Weights K.group.Carrier) where
   -- The plain ring is fed calls and what they were handed, and no answers: it keeps cells, opening, crossed and
   -- touched of its own.
@@ -107,15 +124,13 @@ module _ {C : Type 0} (K : Kind C) (r : Local) (d : Weights K.group.Carrier) whe
   abbrev pub WithoutGaps : Log K.group.Carrier → Type 0
   WithoutGaps = OnEveryLine (λ log line. GoesOn (standing log) line)
 
-  -- each arc's charge is that at opening, plus what crossed in, less what crossed out, plus what was touched
+  -- every arc of a ring adds up
   abbrev pub ArcsAgree : Ring K.group.Carrier → Type 0
   ArcsAgree p = (a n : ℕ) → n ≤ length p.cells →
-      let G = K.group in
-      let at : List G.Carrier → ℕ → G.Carrier = round G.zero in
-      arc G (charges K r d p.cells) a n
-      ≡ G.add (G.add (arc G (at p.opening) a n) (minus G (at p.crossed a) (at p.crossed (a + n)))) (arc G (at p.touched) a n)
+      let at : List K.group.Carrier → ℕ → K.group.Carrier = round K.group.zero in
+      AddsUp K.group (arc_meters K.group (at p.opening) (at p.crossed) (at p.touched) (charges K r d p.cells) a n)
 
-  -- the answer is the plain ring's, what stands is what the plain ring keeps, and the arcs agree
+  -- the answer is the plain ring's, what stands is what the plain ring keeps, and the arcs add up
   pub record LineTrue (log : Log K.group.Carrier) (line : Line K.group.Carrier) : Type 0 where
     pub answers : line.got.said ≡ plain_answer (plain log) line.call line.handed
     pub rings : standing (log then line) ≡ plain (log then line)

@@ -1,8 +1,8 @@
 // The meters of an arc of sites.
 ghost use Rattle.std.specs.Prelude.{◌≡◌, ◌+◌, ◌%◌, ◌<◌, ◌≤◌, length, Decides};
 ghost use Rattle.std.specs.Option.{option_map};
-ghost use Rattle.player.specs.Arcs.{arc_of, arc_means, meter, accounted};
-ghost use Rattle.player.specs.Logs.{arc};
+ghost use Rattle.player.specs.Arcs.{arc_of, arc_means};
+ghost use Rattle.player.specs.Logs.{AddsUp};
 
 use crate::meters::Reading;
 use charge::{Charge, difference};
@@ -60,9 +60,9 @@ impl<C: Charge> ArcReading<C> {
 
     // Whether the charge now is that at opening, with what crossed in, less what crossed out, and what was touched.
     pub fn adds_up(self) -> bool
-        ensures { Decides result (accounted C.kind.group (arc_means C.kind self) ≡ C.kind.means self.now) }
+        ensures { Decides result (AddsUp C.kind.group (arc_means C.kind self)) }
     {
         let moved = self.opening.plus(difference(self.into, self.out));
-        moved.plus(self.touched).same(self.now)
+        self.now.same(moved.plus(self.touched))
     }
 }

@@ -1,5 +1,5 @@
 // Ledgers: what a ring's strips of charges are read and written by.
-ghost use Rattle.std.specs.Prelude.{◌≡◌, ◌≤◌, map, length, take, slice_set, slice_index_or};
+ghost use Rattle.std.specs.Prelude.{◌≡◌, ◌+◌, ◌≤◌, map, length, take, drop, slice_set, slice_index_or};
 ghost use Rattle.automaton.specs.Words.{table};
 ghost use Rattle.criterion.specs.Strips.{FrontMeans};
 ghost use Rattle.player.specs.Calls.{booked};
@@ -61,9 +61,10 @@ impl<'a, C: Charge> Ledger<'a, C> {
         self.at(i).plus(charge)
     }
 
-    // Adds to the charge of site i.
+    // Adds to the charge of site i. Past the last site nothing is written.
     pub fn add(&mut self, i: usize, charge: C)
         ensures sites { map C.kind.means self.new.sites.now ≡ slice_set (map C.kind.means self.old.sites.now) i (C.kind.group.add (slice_index_or (map C.kind.means self.old.sites.now) i C.kind.group.zero) (C.kind.means charge)) }
+        ensures others { (take i self.new.sites.now ≡ take i self.old.sites.now) × (drop (i + 1) self.new.sites.now ≡ drop (i + 1) self.old.sites.now) }
         ensures same { self.new.sites.ghost_name ≡ self.old.sites.ghost_name }
     {
         let sum = self.sum_at(i, charge);
