@@ -1,12 +1,12 @@
 -- The crossings by codes, and the strip that they fill. Assumes nothing.
-use Rattle.std.proofs.Common.{◌≡◌, ℕ, zero, suc, ◌+◌, ◌-◌, ◌*◌, ◌/◌, ◌%◌, ◌^◌, ◌<◌, List, [], ◌∷◌, ◌++◌, map, length, get_or, take, drop, set, sym, refl, ap, ◌∙◌, subst, ap₂, add-zero, add-suc, mul_comm, div-lt_iff_lt-mul, pow-suc, zero-add, zero-mul, div-one, add-one, arith, take_all, pow-add}
-use native.Mathlib.Nat.{pow-zero, div-div-eq-div-mul}
+use Rattle.std.proofs.Common.{get_or-take, div-le_self, ◌≡◌, ℕ, zero, suc, ◌+◌, ◌-◌, ◌*◌, ◌/◌, ◌%◌, ◌^◌, ◌<◌, List, [], ◌∷◌, ◌++◌, map, length, get_or, take, drop, set, sym, refl, ap, ◌∙◌, subst, ap₂, add-zero, add-suc, mul_comm, div-lt_iff_lt-mul, pow-suc, zero-add, zero-mul, div-one, add-one, arith, take_all, pow-add}
+use native.Mathlib.Nat.{pow-zero, div-div-eq-div-mul, div-eq_of_lt}
 use lib.Seq.{take-append-le}
 use Rattle.std.specs.Int.Digits.{number_from_digits_after}
 use Rattle.std.proofs.lemmas.List.{take_more_set, drop-set, drop_all, append_assoc, append-nil, map_push, get_or-map, length-map}
 use Rattle.fault.specs.Answers.{front}
-use Rattle.charge.specs.Groups.{Group, Kind, sum}
-use Rattle.charge.proofs.Sums.{sum_more, sum_same, sum_first}
+use Rattle.charge.specs.Groups.{Group, Kind, minus, sum}
+use Rattle.charge.proofs.Sums.{left_comm, interchange, neg_is, sum_more, sum_same, sum_first}
 use Rattle.automaton.specs.Words.{code, word, repeated, table}
 use Rattle.automaton.specs.Meanings.{Weights, weight}
 use Rattle.automaton.proofs.Codes.{length-word, power-some, code-word}
@@ -58,6 +58,17 @@ sum_back G f (suc n) =
     ∙ ap₂ G.add (ap f last) (sum_same G (λ i. f (n - suc i)) (λ i. f (suc n - suc (suc i))) n (λ i h. ap f (omega arith)))
     ∙ sym (sum_first G (λ i. f (suc n - suc i)) n)
 
+-- of two sums that differ by one term each, the opposite of one from that of the other
+moved : (G : Group) (s t z a : G.Carrier) → G.add s z ≡ G.add a t → G.add (G.neg t) (minus G z a) ≡ G.neg s
+moved G s t z a e =
+    neg_is G s (G.add (G.neg t) (minus G z a))
+    (ap (G.add s) (left_comm G (G.neg t) z (G.neg a))
+    ∙ sym (G.assoc s z (G.add (G.neg t) (G.neg a)))
+    ∙ ap₂ G.add e (G.comm (G.neg t) (G.neg a))
+    ∙ interchange G a t (G.neg a) (G.neg t)
+    ∙ ap₂ G.add (G.cancel a) (G.cancel t)
+    ∙ G.unit G.zero)
+
 module _ {C : Type 0} (K : Kind C) (d : Weights K.group.Carrier) where
   -- the label on the word of code v without its last i letters
   abbrev front_label : ℕ → ℕ → K.group.Carrier
@@ -72,6 +83,26 @@ module _ {C : Type 0} (K : Kind C) (d : Weights K.group.Carrier) where
       (sum_same G (λ j. weight G d (repeated 0 (r - j) ++ take (suc j) (word d.q r v))) (λ j. front_label v (r - suc j)) r
       (λ j h. ap (λ c. get_or d.charges c G.zero) (head-code d.q r v j some below h))
       ∙ sym (sum_back G (front_label v) r))
+
+  -- the crossing of a word from that of its front: J(v) = J(v / q) - d(v) + d(0)
+  pub crossing-front : (v : ℕ) (x z a : K.group.Carrier) → 0 < d.q → v < d.q ^ (d.k - 1) →
+      x ≡ J K 0 d (word d.q (d.k - 1) (v / d.q)) → z ≡ get_or d.charges 0 K.group.zero → a ≡ get_or d.charges v K.group.zero →
+      K.group.add x (minus K.group z a) ≡ J K 0 d (word d.q (d.k - 1) v)
+  crossing-front v x z a some below ex ez ea =
+      let G = K.group in
+      let r = d.k - 1 in
+      let f : ℕ → G.Carrier = front_label v in
+      let fewer : sum G (λ i. f (suc i)) r ≡ sum G (front_label (v / d.q)) r =
+      sum_same G (λ i. f (suc i)) (front_label (v / d.q)) r
+      (λ i h. ap (λ c. get_or d.charges c G.zero) (ap (λ p. v / p) (pow-suc d.q i ∙ mul_comm (d.q ^ i) d.q) ∙ sym (div-div-eq-div-mul v d.q (d.q ^ i)))) in
+      let last : f r ≡ z = ap (λ c. get_or d.charges c G.zero) (div-eq_of_lt below) ∙ sym ez in
+      let first : f 0 ≡ a = ap (λ c. get_or d.charges c G.zero) (sym (front_all d.q v)) ∙ sym ea in
+      let sums : G.add (sum G f r) z ≡ G.add a (sum G (front_label (v / d.q)) r) =
+      ap (G.add (sum G f r)) (sym last) ∙ sum_first G f r ∙ ap₂ G.add first fewer in
+      let head : x ≡ G.neg (sum G (front_label (v / d.q)) r) = ex ∙ crossing-code (v / d.q) some (omega (arith, below, div-le_self v d.q)) in
+      ap (λ t. G.add t (minus G z a)) head
+      ∙ moved G (sum G f r) (sum G (front_label (v / d.q)) r) z a sums
+      ∙ sym (crossing-code v some below)
 
   -- after j terms the sum is s, and the front is what is left of v
   abbrev pub Summed : ℕ → ℕ → ℕ → C → Type 0
@@ -107,6 +138,10 @@ module _ {C X : Type 0} (means : C → X) (f : ℕ → X) where
       ∙ sym (get_or-map means strip i x (means x) (omega arith))
       ∙ ap (λ t. get_or t i (means x)) filled
       ∙ get_or-table n f (means x) i h
+
+  -- likewise at the front of a strip that is filled so far
+  pub filled_so-far : (strip : List C) (n i : ℕ) (x : C) → map means (take n strip) ≡ table n f → i < n → x ≡ get_or strip i x → means x ≡ f i
+  filled_so-far strip n i x filled h is = filled_at (take n strip) n i x filled h (is ∙ sym (get_or-take n strip i x h))
 
 module _ {C : Type 0} (K : Kind C) (d : Weights K.group.Carrier) (strip : List C) (filled : map K.means strip ≡ crossings K 0 d) where
   -- a filled strip has one charge for each word of m - 1 letters

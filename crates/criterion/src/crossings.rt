@@ -1,10 +1,11 @@
 // The crossings of all words of m - 1 letters.
 ghost use Rattle.std.specs.Prelude.{◌≡◌, ◌-◌, ◌^◌, ◌<◌, map, length, slice_index_or};
 ghost use Rattle.automaton.specs.Words.{word};
+ghost use Rattle.charge.specs.Groups.{minus};
 ghost use Rattle.criterion.specs.Search.{padding, J, crossings};
 
 use crate::label::Label;
-use charge::Charge;
+use charge::{Charge, difference};
 
 // How many words of m - 1 letters there are.
 pub(crate) fn head_count<C: Charge, L: Label<C>>(label: &L) -> usize
@@ -48,12 +49,23 @@ pub fn crossing<C: Charge, L: Label<C>>(label: &L, code: usize) -> C
     }
 }
 
-// Fills a strip of as many charges with the crossings.
+// The crossing of a word from that of its front, which is a zero and all its letters but the last.
+fn next_crossing<C: Charge>(front: C, zeros: C, whole: C) -> C
+    ensures { C.kind.means result ≡ C.kind.group.add (C.kind.means front) (minus C.kind.group (C.kind.means zeros) (C.kind.means whole)) }
+{
+    front.plus(difference(zeros, whole))
+}
+
+// Fills a strip of as many charges with the crossings, each from that of its word's front: J(v) = J(v / q) - d(v) + d(0),
+// so that one label is asked for a word. By index, since a front stands before its word in the strip.
 pub(crate) fn fill_crossings<C: Charge, L: Label<C>>(label: &L, strip: &mut [C])
     requires { length strip.old ≡ (L.labels C.kind label.now).q ^ ((L.labels C.kind label.now).k - 1) }
     ensures { map C.kind.means strip.new ≡ crossings C.kind padding (L.labels C.kind label.now) }
 {
-    for (v, slot) in strip.iter_mut().enumerate() {
-        *slot = crossing_at(label, v);
+    let q = label.q();
+    let zeros = label.label(0);
+    strip[0] = crossing_at(label, 0);
+    for v in 1..strip.len() {
+        strip[v] = next_crossing(strip[v / q], zeros, label.label(v));
     }
 }
