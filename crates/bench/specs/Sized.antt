@@ -1,13 +1,13 @@
 -- Rules and densities with the sizes that a label keeps of them. Assumes nothing.
 use Rattle.std.proofs.Common.{subst}
-use Rattle.std.specs.Prelude.{◌≡◌, ℕ, ◌^◌, List}
+use Rattle.std.specs.Prelude.{◌≡◌, ℕ, ◌+◌, ◌-◌, ◌^◌, ◌<◌, List, length, slice_index}
 use Rattle.automaton.specs.declared.words.Words.{Words}
-use Rattle.automaton.specs.Words.{word}
+use Rattle.automaton.specs.Words.{code, word}
 use Rattle.automaton.specs.Tables.{length-table}
 use Rattle.automaton.specs.Meanings.{Local, Weights, DensitySizes, Weighed}
 use Rattle.bench.specs.declared.sizes.RuleSizes.{RuleSizes}
 use Rattle.bench.specs.declared.sizes.TwoSizes.{TwoSizes}
-use Rattle.bench.specs.Labels.{listed}
+use Rattle.bench.specs.Labels.{next_letters, listed}
 
 abbrev pub sized_rule : RuleSizes → Local → Local
 sized_rule s r = record { q = s.words.q; n = s.n; l = s.l; answers = r.answers }
@@ -31,3 +31,11 @@ listed_weighed q m d sizes = record { sizes = sizes; each = length-table (q ^ m)
 -- a label on these words has a charge for each
 pub label_weighed : {A : Type 0} (w : Words) (m : ℕ) → w.m ≡ m → (d : List ℕ → A) → Weighed (listed w.q m d)
 label_weighed w m e d = listed_weighed w.q m d (subst (DensitySizes w.q) e w.sizes)
+
+-- the code of the next letters of the word with a code
+abbrev pub next_word : RuleSizes → Local → ℕ → ℕ
+next_word s r c = code s.words.q (next_letters (sized_rule s r) s.k (word s.words.q (s.n + s.k - 1) c))
+
+-- the codes of the next letters of the first words, one for each
+abbrev pub NextWords : RuleSizes → Local → List ℕ → Type 0
+NextWords s r nexts = (c : ℕ) → c < length nexts → slice_index nexts c ≡ next_word s r c

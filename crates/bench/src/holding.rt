@@ -42,6 +42,7 @@ impl<C: Charge, R: Rule, D: Density<C>> Holding<C, R, D> {
         let label = RuleLabel {
             parts: &self.parts,
             sizes: self.sizes,
+            nexts: &[],
         };
         crossing(&label, ring.span_code(self.crossing_span(), i))
     }

@@ -93,6 +93,7 @@ impl<C: Charge, R: Rule, D: Density<C>> Draft<C, R, D> {
         let label = RuleLabel {
             parts: &self.parts,
             sizes: self.sizes,
+            nexts: &[],
         };
         examine(&label, crossings, ring)
     }

@@ -4,6 +4,7 @@
 mod comparing;
 mod holding;
 mod judging;
+mod next_words;
 mod parts;
 mod rule_label;
 mod sizes;

@@ -3,10 +3,31 @@ ghost use Rattle.std.specs.Prelude.{◌≡◌, ◌+◌, ◌/◌, ◌%◌, ◌^�
 
 use automaton::Words;
 
-// The code of the `count` letters before the last `after` letters of a word.
-pub(crate) fn part_code(words: Words, count: usize, after: usize, code: usize) -> usize
-    requires { count + after ≤ words.m }
-    ensures { result ≡ code / (words.q ^ after) % (words.q ^ count) }
-{
-    code / words.q.pow(after as u32) % words.q.pow(count as u32)
+// Some letters of a word, which others follow: the words of the letters that follow and of the letters themselves are
+// counted once, since a power costs more than the part.
+#[derive(Clone, Copy)]
+pub struct Part {
+    after: usize,
+    count: usize,
+    ghost some: { (1 ≤ after) × (1 ≤ count) },
+}
+
+impl Part {
+    // The `letters` letters that `after` letters follow.
+    pub(crate) fn of(words: Words, letters: usize, after: usize) -> Part
+        requires { letters + after ≤ words.m }
+        ensures { (result.after ≡ words.q ^ after) × (result.count ≡ words.q ^ letters) }
+    {
+        Part {
+            after: words.q.pow(after as u32),
+            count: words.q.pow(letters as u32),
+        }
+    }
+
+    // The code of the part of the word of this code.
+    pub(crate) fn code(self, code: usize) -> usize
+        ensures { result ≡ code / self.after % self.count }
+    {
+        code / self.after % self.count
+    }
 }

@@ -4,32 +4,39 @@ ghost use Rattle.fault.specs.Answers.{plainly, and_then};
 ghost use Rattle.fault.specs.Refusals.{refusal};
 ghost use Rattle.bench.specs.Verdicts.{fitting, bench_checked, pair_checked};
 
+use crate::parts::Part;
 use crate::state::Parts;
 use automaton::{Density, Rule, Words};
 use charge::Charge;
 use fault::limits::word_count;
 use fault::{Fault, Stop};
 
-// The sizes of the label of a rule under a density: its words, the rule's window and reach, and the density's width.
-// A label keeps sizes of its own, since its laws are for every `Kind` of its charges, and the tests for one.
+// The sizes of the label of a rule under a density: its words, the rule's window and reach, and the density's width; and
+// the part of a word that the density weighs before the step. A label keeps sizes of its own, since its laws are for every
+// `Kind` of its charges, and the tests for one.
 #[derive(Clone, Copy)]
 pub struct RuleSizes {
     pub(crate) words: Words,
     pub(crate) n: usize,
     pub(crate) l: usize,
     pub(crate) k: usize,
+    pub(crate) weighed: Part,
     ghost reach: { l < n },
     ghost some: { 1 ≤ k },
     ghost whole: { words.m ≡ n + k - 1 },
+    ghost middle: { (weighed.after ≡ words.q ^ (n - 1 - l)) × (weighed.count ≡ words.q ^ k) },
 }
 
-// The sizes of the label of two densities: its words, and the two widths.
+// The sizes of the label of two densities: its words, the two widths, and the parts of a word that the two weigh.
 #[derive(Clone, Copy)]
 pub struct TwoSizes {
     pub(crate) words: Words,
     pub(crate) first: usize,
     pub(crate) second: usize,
+    pub(crate) first_front: Part,
+    pub(crate) second_front: Part,
     ghost larger: { words.m ≡ max first second },
+    ghost fronts: { (first_front.after ≡ words.q ^ (words.m - first)) × (first_front.count ≡ words.q ^ first) × (second_front.after ≡ words.q ^ (words.m - second)) × (second_front.count ≡ words.q ^ second) },
 }
 
 // How many words of m letters two parts of these alphabets have. The bounds on q are those of the first part.
@@ -55,11 +62,14 @@ impl RuleSizes {
         let k = parts.density.k();
         let m = n + k - 1;
         let count = common_words(q, parts.density.q(), m)?;
+        let words = Words { q, m, count };
+        let l = parts.rule.l();
         Ok(RuleSizes {
-            words: Words { q, m, count },
+            words,
             n,
-            l: parts.rule.l(),
+            l,
             k,
+            weighed: Part::of(words, k, n - 1 - l),
         })
     }
 }
@@ -75,10 +85,15 @@ impl TwoSizes {
         let q = first.q();
         let m = first.k().max(second.k());
         let count = common_words(q, second.q(), m)?;
+        let words = Words { q, m, count };
+        let first = first.k();
+        let second = second.k();
         Ok(TwoSizes {
-            words: Words { q, m, count },
-            first: first.k(),
-            second: second.k(),
+            words,
+            first,
+            second,
+            first_front: Part::of(words, first, m - first),
+            second_front: Part::of(words, second, m - second),
         })
     }
 }

@@ -3,9 +3,8 @@ ghost use Rattle.std.specs.Prelude.{◌≡◌, ◌-◌, ◌/◌, ◌%◌, ◌^�
 ghost use Rattle.bench.specs.Labels.{two_label, listed};
 ghost use Rattle.bench.specs.Sized.{first_sized, second_sized, label_weighed};
 
-use crate::parts::part_code;
 use crate::sizes::TwoSizes;
-use automaton::{Density, Words};
+use automaton::Density;
 use charge::{Charge, difference};
 use criterion::Label;
 
@@ -31,23 +30,11 @@ impl<C: Charge, D: Density<C>, E: Density<C>> Label<C> for TwoLabel<'_, '_, D, E
     }
 
     fn label(&self, code: usize) -> C {
-        let TwoSizes {
-            words,
-            first,
-            second,
-        } = self.sizes;
-        if code >= words.count {
+        if code >= self.sizes.words.count {
             return C::zero();
         }
-        let weighed = front_charge(self.first, words, first, code);
-        difference(weighed, front_charge(self.second, words, second, code))
+        let weighed = self.first.charge(self.sizes.first_front.code(code));
+        let less = self.second.charge(self.sizes.second_front.code(code));
+        difference(weighed, less)
     }
-}
-
-// The charge of the first `width` letters of a word.
-fn front_charge<C: Charge, D: Density<C>>(density: &D, words: Words, width: usize, code: usize) -> C
-    requires { width ≤ words.m }
-    ensures { C.kind.means result ≡ slice_index_or (D.weights C.kind density.now).charges (code / (words.q ^ (words.m - width)) % (words.q ^ width)) C.kind.group.zero }
-{
-    density.charge(part_code(words, width, words.m - width, code))
 }

@@ -1,11 +1,11 @@
-use Rattle.std.proofs.Common.{◌+◌, ◌-◌, ◌^◌, ◌<◌, ◌≤◌, sym, refl, ◌∙◌, subst, arith}
+use Rattle.std.proofs.Common.{ap₂, arith, refl, subst, sym, ◌%◌, ◌+◌, ◌-◌, ◌/◌, ◌<◌, ◌^◌, ◌∙◌, ◌≡◌, ◌≤◌}
 use Rattle.bench.specs.Labels.{rule_label}
 use Rattle.bench.specs.Sized.{sized_rule, sized_density}
 use Rattle.bench.proofs.Coded.{listed-past, rule-entry}
 use Rattle.bench.proofs.rule_label.RuleLabelLabel.label.Goals as goal
 
-pub returns-then-code-words : goal.returns-then-code-words
-returns-then-code-words g c =
+pub returns-then-code-self : goal.returns-then-code-self
+returns-then-code-self g c =
     let K = g.C.Charge.kind in
     let t = c.args.self.now in
     let s = t.sizes in
@@ -21,5 +21,6 @@ returns g c =
     let s = t.sizes in
     let reach = s.reach in
     let few = s.words.sizes in
+    let part : c.code.result ≡ c.args.code / s.words.q ^ (s.n - 1 - s.l) % s.words.q ^ s.k = c.code.ensures ∙ ap₂ (λ a b. c.args.code / a % b) s.middle.0 s.middle.1 in
     rule-entry K.group (sized_rule s (g.R.Rule.meaning t.parts.now.rule)) (sized_density s (g.D.Density.weights K t.parts.now.density)) c.args.code _ _ _ _ _ (omega arith) refl reach (subst (λ m. c.args.code < s.words.q ^ m) s.whole (omega (arith, s.words.counted)))
-    c.next_code.ensures c.part_code.ensures c.charge-later.ensures c.charge-now.ensures c.difference.ensures
+    c.next_word.ensures part c.charge-later.ensures c.charge-now.ensures c.difference.ensures

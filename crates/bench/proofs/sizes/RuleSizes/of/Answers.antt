@@ -2,8 +2,8 @@ use Rattle.std.proofs.Common.{arith}
 use Rattle.bench.proofs.Fits.{words_sizes}
 use Rattle.bench.proofs.sizes.RuleSizes.of.Goals as goal
 
-pub invariant_of-result : goal.invariant_of-result
-invariant_of-result g c =
+pub invariant_of-words : goal.invariant_of-words
+invariant_of-words g c =
     let lawful = g.R.Rule.lawful c.args.parts.now.rule in
     let weighed = g.D.Density.lawful g.C.Charge.kind c.args.parts.now.density in
     let rule = lawful.sizes in

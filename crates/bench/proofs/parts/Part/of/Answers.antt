@@ -1,7 +1,7 @@
 use Rattle.std.proofs.Common.{arith}
 use Rattle.fault.proofs.Powers.{power_bound}
 use Rattle.automaton.proofs.Codes.{power-some}
-use Rattle.bench.proofs.parts.part_code.Goals as goal
+use Rattle.bench.proofs.parts.Part.of.Goals as goal
 
 pub pow-requires : goal.pow-requires
 pow-requires c =
@@ -9,20 +9,15 @@ pow-requires c =
     let sizes = w.sizes in
     omega (arith, power_bound w.q c.args.after sizes.1 (omega arith))
 
-pub nonzero_div-result : goal.nonzero_div-result
-nonzero_div-result c =
-    let w = c.args.words in
-    let sizes = w.sizes in
-    omega (arith, power-some w.q (omega arith) c.args.after)
-
 pub pow-requires-2 : goal.pow-requires-2
 pow-requires-2 c =
     let w = c.args.words in
     let sizes = w.sizes in
-    omega (arith, power_bound w.q c.args.count sizes.1 (omega arith))
+    omega (arith, power_bound w.q c.args.letters sizes.1 (omega arith))
 
-pub nonzero_rem-result : goal.nonzero_rem-result
-nonzero_rem-result c =
+pub invariant_of-result : goal.invariant_of-result
+invariant_of-result c =
     let w = c.args.words in
     let sizes = w.sizes in
-    omega (arith, power-some w.q (omega arith) c.args.count)
+    let some = power-some w.q (omega arith) in
+    record { some = (omega (arith, c.pow.ensures, some c.args.after), omega (arith, c.pow-2.ensures, some c.args.letters)) }

@@ -3,11 +3,11 @@ use Rattle.automaton.specs.Words.{code, word}
 use Rattle.bench.specs.Labels.{next_letters}
 use Rattle.bench.specs.Sized.{sized_rule}
 use Rattle.bench.proofs.Coded.{next_bound, next_fits, next_more}
-use Rattle.bench.proofs.rule_label.RuleLabel.next_code.Goals as goal
+use Rattle.bench.proofs.state.Parts.next_code.Goals as goal
 
 pub overflow_mul-next : goal.overflow_mul-next
 overflow_mul-next g c =
-    let s = c.args.self.now.sizes in
+    let s = c.args.sizes in
     let few = s.words.sizes in
     let whole = s.whole in
     let reach = s.reach in
@@ -17,7 +17,7 @@ overflow_mul-next g c =
 
 pub overflow_add-next : goal.overflow_add-next
 overflow_add-next g c =
-    let s = c.args.self.now.sizes in
+    let s = c.args.sizes in
     let few = s.words.sizes in
     let whole = s.whole in
     let reach = s.reach in
@@ -27,10 +27,10 @@ overflow_add-next g c =
 
 pub loop-after-preserved : goal.loop-after-preserved
 loop-after-preserved g c =
-    let s = c.args.self.now.sizes in
+    let s = c.args.sizes in
     let few = s.words.sizes in
     let reach = s.reach in
-    let r = sized_rule s (g.R.Rule.meaning c.args.self.now.parts.now.rule) in
+    let r = sized_rule s (g.R.Rule.meaning c.args.self.now.rule) in
     let j = s.k - c.loop-after.after in
     let x : ℕ = c.loop-after.next * s.words.q + c.answer_at.result in
     let more : j + 1 ≡ s.k - (c.loop-after.after - 1) = omega arith in
