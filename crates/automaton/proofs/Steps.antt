@@ -17,7 +17,7 @@ pub length-next : (r : Local) (c : List ℕ) → length (next r c) ≡ length c
 length-next r c = length-window (length c) (λ i. answer r (window r.n (cell c) (before (length c) r.l i))) 0
 
 -- past the end of a list stands 0, which is a letter too
-letters_any : (q : ℕ) → 0 < q → (w : List ℕ) → Letters q w → (i : ℕ) → get_or w i 0 < q
+pub letters_any : (q : ℕ) → 0 < q → (w : List ℕ) → Letters q w → (i : ℕ) → get_or w i 0 < q
 letters_any q some [] a i = some
 letters_any q some (x ∷ w) a zero = a 0 (omega arith)
 letters_any q some (x ∷ w) a (suc i) = letters_any q some w (λ k h. a (suc k) (omega arith)) i

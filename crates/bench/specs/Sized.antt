@@ -1,6 +1,6 @@
 -- Rules and densities with the sizes that a label keeps of them. Assumes nothing.
 use Rattle.std.proofs.Common.{subst}
-use Rattle.std.specs.Prelude.{◌≡◌, ℕ, ◌+◌, ◌-◌, ◌^◌, ◌<◌, List, length, slice_index}
+use Rattle.std.specs.Prelude.{◌≡◌, ℕ, ◌+◌, ◌-◌, ◌^◌, ◌<◌, List, slice_index}
 use Rattle.automaton.specs.declared.words.Words.{Words}
 use Rattle.automaton.specs.Words.{code, word}
 use Rattle.automaton.specs.Tables.{length-table}
@@ -36,6 +36,6 @@ label_weighed w m e d = listed_weighed w.q m d (subst (DensitySizes w.q) e w.siz
 abbrev pub next_word : RuleSizes → Local → ℕ → ℕ
 next_word s r c = code s.words.q (next_letters (sized_rule s r) s.k (word s.words.q (s.n + s.k - 1) c))
 
--- the codes of the next letters of the first words, one for each
-abbrev pub NextWords : RuleSizes → Local → List ℕ → Type 0
-NextWords s r nexts = (c : ℕ) → c < length nexts → slice_index nexts c ≡ next_word s r c
+-- the first n entries of a strip are the codes of the next letters of the first n words
+abbrev pub NextWords : RuleSizes → Local → ℕ → List ℕ → Type 0
+NextWords s r n strip = (c : ℕ) → c < n → slice_index strip c ≡ next_word s r c

@@ -20,6 +20,7 @@ use automaton::{Density, Rule, next_ring, total};
 use charge::Charge;
 use criterion::{Failure, MOST_SHOWN, examine};
 use fault::Fault;
+use fault::limits::MOST_WORDS;
 use std::marker::PhantomData;
 
 // What a draft is once it is judged.
@@ -83,17 +84,21 @@ impl<C: Charge, R: Rule, D: Density<C>> Draft<C, R, D> {
         })
     }
 
-    // The first word that fails under the label, on lent strips. The two strips make no struct: clauses would reach each
-    // of them through two references.
+    // The first word that fails under the label, on lent strips. The next letters of all words are found first, since each
+    // word's label is asked for more than once. The two strips make no struct: clauses would reach each of them through two
+    // references.
     fn judge_words(&self, crossings: &mut [C], ring: &mut [u8]) -> Result<Option<Failure>, Fault>
         ensures answer { seen result ≡ counted (judge_found C.kind (length crossings.old) (length ring.old) (R.meaning self.now.parts.rule) (D.weights C.kind self.now.parts.density)) }
         ensures crossings { FrontMeans C.kind (judge_crossings C.kind (length crossings.old) (length ring.old) (R.meaning self.now.parts.rule) (D.weights C.kind self.now.parts.density)) crossings.old crossings.new }
         ensures ring { ring.new ≡ front (ring_written (judge_found C.kind (length crossings.old) (length ring.old) (R.meaning self.now.parts.rule) (D.weights C.kind self.now.parts.density))) ring.old }
     {
+        let mut strip = [0u16; MOST_WORDS as usize];
+        let nexts = &mut strip[..self.sizes.words.count];
+        self.parts.write_next_words(self.sizes, nexts);
         let label = RuleLabel {
             parts: &self.parts,
             sizes: self.sizes,
-            nexts: &[],
+            nexts,
         };
         examine(&label, crossings, ring)
     }

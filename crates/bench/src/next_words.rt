@@ -1,6 +1,6 @@
 // The next letters of words, by codes.
-ghost use Rattle.std.specs.Prelude.{◌≡◌, ◌+◌, ◌-◌, ◌/◌, ◌%◌, ◌^◌, ◌<◌, slice_index};
-ghost use Rattle.bench.specs.Sized.{next_word};
+ghost use Rattle.std.specs.Prelude.{◌≡◌, ◌+◌, ◌-◌, ◌/◌, ◌%◌, ◌^◌, ◌<◌, ◌*◌, max, length, slice_index};
+ghost use Rattle.bench.specs.Sized.{sized_rule, next_word, NextWords};
 
 use crate::parts::Part;
 use crate::sizes::RuleSizes;
@@ -26,5 +26,37 @@ impl<R: Rule, D> Parts<R, D> {
             next = next * sizes.words.q + self.answer_at(sizes, after, code) as usize;
         }
         next
+    }
+
+    // Writes the next words of the words that are `head` with one letter more, of which all but the last next letter are
+    // the last next letters of `head`.
+    fn extend(&self, sizes: RuleSizes, head: usize, strip: &mut [u16])
+        requires rule { sized_rule sizes (R.meaning self.now.rule) ≡ R.meaning self.now.rule }
+        requires word { (length strip.old ≡ sizes.words.count) × (head * sizes.words.q < length strip.old) }
+        requires known { NextWords sizes (R.meaning self.now.rule) (max 1 (head * sizes.words.q)) strip.old }
+        ensures len { length strip.new ≡ length strip.old }
+        ensures known { NextWords sizes (R.meaning self.now.rule) ((head + 1) * sizes.words.q) strip.new }
+    {
+        let q = sizes.words.q;
+        let first = head * q;
+        let kept = strip[head] as usize % sizes.kept * q;
+        let place = first % sizes.windows;
+        for last in 0..q {
+            let letter = self.rule.answer(place + last);
+            strip[first + last] = (kept + letter as usize) as u16;
+        }
+    }
+
+    // Fills a strip with the next words of all words.
+    pub(crate) fn write_next_words(&self, sizes: RuleSizes, strip: &mut [u16])
+        requires rule { sized_rule sizes (R.meaning self.now.rule) ≡ R.meaning self.now.rule }
+        requires room { length strip.old ≡ sizes.words.count }
+        ensures len { length strip.new ≡ length strip.old }
+        ensures known { NextWords sizes (R.meaning self.now.rule) (length strip.new) strip.new }
+    {
+        strip[0] = self.next_code(sizes, 0) as u16;
+        for head in 0..strip.len() / sizes.words.q {
+            self.extend(sizes, head, strip);
+        }
     }
 }

@@ -11,9 +11,9 @@ use charge::Charge;
 use fault::limits::word_count;
 use fault::{Fault, Stop};
 
-// The sizes of the label of a rule under a density: its words, the rule's window and reach, and the density's width; and
-// the part of a word that the density weighs before the step. A label keeps sizes of its own, since its laws are for every
-// `Kind` of its charges, and the tests for one.
+// The sizes of the label of a rule under a density: its words, the rule's window and reach, and the density's width; the
+// part of a word that the density weighs before the step; and how many words there are of a window, and of the next letters
+// but one. A label keeps sizes of its own, since its laws are for every `Kind` of its charges, and the tests for one.
 #[derive(Clone, Copy)]
 pub struct RuleSizes {
     pub(crate) words: Words,
@@ -21,9 +21,12 @@ pub struct RuleSizes {
     pub(crate) l: usize,
     pub(crate) k: usize,
     pub(crate) weighed: Part,
+    pub(crate) windows: usize,
+    pub(crate) kept: usize,
     ghost reach: { l < n },
     ghost some: { 1 ≤ k },
     ghost whole: { words.m ≡ n + k - 1 },
+    ghost counts: { (windows ≡ words.q ^ n) × (kept ≡ words.q ^ (k - 1)) },
     ghost middle: { (weighed.after ≡ words.q ^ (n - 1 - l)) × (weighed.count ≡ words.q ^ k) },
 }
 
@@ -70,6 +73,8 @@ impl RuleSizes {
             l,
             k,
             weighed: Part::of(words, k, n - 1 - l),
+            windows: q.pow(n as u32),
+            kept: q.pow((k - 1) as u32),
         })
     }
 }
