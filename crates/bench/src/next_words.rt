@@ -17,7 +17,9 @@ impl<R: Rule, D> Parts<R, D> {
         self.rule.answer(place)
     }
 
-    // The code of the next letters of a word, one answer a letter.
+    // The code of the next letters of a word, one answer a letter. Cold, so that a label that finds them in a table stays
+    // small where it is inlined.
+    #[cold]
     pub(crate) fn next_code(&self, sizes: RuleSizes, code: usize) -> usize
         ensures { result ≡ next_word sizes (R.meaning self.now.rule) code }
     {
