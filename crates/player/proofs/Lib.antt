@@ -15,3 +15,4 @@ pub mod Scripts
 pub mod Wide
 pub mod Plays
 pub mod Whole
+pub mod Near

@@ -19,21 +19,21 @@ use Rattle.player.proofs.Works.{does_work}
 set-front : {X : Type 0} (n : ℕ) (xs : List X) (i : ℕ) (x : X) → i < n → set (take n xs) i x ++ drop n xs ≡ set xs i x
 set-front n xs i x h = ap₂ ◌++◌ (sym (take-set-lt n xs i x h)) (sym (drop-set-lt n xs i x h)) ∙ take-append-drop n (set xs i x)
 
-module _ (G : Group) (before after : ℕ → G.Carrier) (xs : List G.Carrier) where
-  -- the opposite of one charge is booked, and then another charge
-  pub booked-twice : booked G after (booked G (λ i. G.neg (before i)) xs) ≡ booked G (λ i. minus G (after i) (before i)) xs
+module _ (G : Group) (first second both : ℕ → G.Carrier) (xs : List G.Carrier) (sum : (i : ℕ) → i < length xs → G.add (first i) (second i) ≡ both i) where
+  -- some charges are booked, and then others
+  pub booked-twice : booked G second (booked G first xs) ≡ booked G both xs
   booked-twice =
-      let once = booked G (λ i. G.neg (before i)) xs in
-      let size : length once ≡ length xs = length-booked G (λ i. G.neg (before i)) xs in
-      ext_get_or G.zero (booked G after once) (booked G (λ i. minus G (after i) (before i)) xs)
-      (length-booked G after once ∙ size ∙ sym (length-booked G (λ i. minus G (after i) (before i)) xs))
+      let once = booked G first xs in
+      let size : length once ≡ length xs = length-booked G first xs in
+      ext_get_or G.zero (booked G second once) (booked G both xs)
+      (length-booked G second once ∙ size ∙ sym (length-booked G both xs))
       (λ i h.
-      let within : i < length xs = omega (arith, length-booked G after once, size) in
-      get_or-table (length once) (λ j. G.add (get_or once j G.zero) (after j)) G.zero i (omega (arith, size))
-      ∙ ap (λ x. G.add x (after i)) (get_or-table (length xs) (λ j. G.add (get_or xs j G.zero) (G.neg (before j))) G.zero i within)
-      ∙ G.assoc (get_or xs i G.zero) (G.neg (before i)) (after i)
-      ∙ ap (G.add (get_or xs i G.zero)) (G.comm (G.neg (before i)) (after i))
-      ∙ sym (get_or-table (length xs) (λ j. G.add (get_or xs j G.zero) (minus G (after j) (before j))) G.zero i within))
+      let within : i < length xs = omega (arith, length-booked G second once, size) in
+      get_or-table (length once) (λ j. G.add (get_or once j G.zero) (second j)) G.zero i (omega (arith, size))
+      ∙ ap (λ x. G.add x (second i)) (get_or-table (length xs) (λ j. G.add (get_or xs j G.zero) (first j)) G.zero i within)
+      ∙ G.assoc (get_or xs i G.zero) (first i) (second i)
+      ∙ ap (G.add (get_or xs i G.zero)) (sum i within)
+      ∙ sym (get_or-table (length xs) (λ j. G.add (get_or xs j G.zero) (both j)) G.zero i within))
 
 module _ {C : Type 0} (K : Kind C) (r : Local) (d : Weights K.group.Carrier) (L i a : ℕ) (cells cells' : List ℕ) (touched touched' : List C) where
   -- what is booked
@@ -67,28 +67,32 @@ module _ {C : Type 0} (K : Kind C) (r : Local) (d : Weights K.group.Carrier) (L 
     touches_past = front-past K gains L touched touched' fronts size
 
 -- the same on the front of a strip
-pub front-twice : {C : Type 0} (K : Kind C) (before after : ℕ → K.group.Carrier) (L : ℕ) (old mid new : List C) → L ≤ length old →
-    FrontMeans K (booked K.group (λ i. K.group.neg (before i)) (take L (map K.means old))) old mid →
-    FrontMeans K (booked K.group after (take L (map K.means mid))) mid new →
-    FrontMeans K (booked K.group (λ i. minus K.group (after i) (before i)) (take L (map K.means old))) old new
-front-twice K before after L old mid new room first second =
-    let now = subst (λ t. FrontMeans K t mid new) (ap (booked K.group after) middle ∙ booked-twice K.group before after xs) second in
-    (now.0, now.1 ∙ ap (λ n. drop n mid) size' ∙ front-past K once L old mid first size ∙ ap (λ n. drop n old) (sym size'))
+pub front-twice : {C : Type 0} (K : Kind C) (first second both : ℕ → K.group.Carrier) (L : ℕ) (old mid new : List C) → L ≤ length old →
+    ((i : ℕ) → i < L → K.group.add (first i) (second i) ≡ both i) →
+    FrontMeans K (booked K.group first (take L (map K.means old))) old mid →
+    FrontMeans K (booked K.group second (take L (map K.means mid))) mid new →
+    FrontMeans K (booked K.group both (take L (map K.means old))) old new
+front-twice K first second both L old mid new room sum one two =
+    let now = subst (λ t. FrontMeans K t mid new) (ap (booked K.group second) middle ∙ booked-twice K.group first second both xs (λ i h. sum i (omega (arith, h, front)))) two in
+    (now.0, now.1 ∙ ap (λ n. drop n mid) size' ∙ front-past K once L old mid one size ∙ ap (λ n. drop n old) (sym size'))
   where
     xs : List K.group.Carrier
     xs = take L (map K.means old)
 
+    front : length xs ≡ L
+    front = length-take-le L (map K.means old) (omega (arith, length-map old K.means))
+
     once : List K.group.Carrier
-    once = booked K.group (λ i. K.group.neg (before i)) xs
+    once = booked K.group first xs
 
     last : List K.group.Carrier
-    last = booked K.group (λ i. minus K.group (after i) (before i)) xs
+    last = booked K.group both xs
 
     size : length once ≡ L
-    size = length-booked K.group (λ i. K.group.neg (before i)) xs ∙ length-take-le L (map K.means old) (omega (arith, length-map old K.means))
+    size = length-booked K.group first xs ∙ front
 
     size' : length last ≡ L
-    size' = length-booked K.group (λ i. minus K.group (after i) (before i)) xs ∙ length-take-le L (map K.means old) (omega (arith, length-map old K.means))
+    size' = length-booked K.group both xs ∙ front
 
     middle : take L (map K.means mid) ≡ once
-    middle = ap (take L) (front-means K once L old mid first size) ∙ take_at once (drop L (map K.means old)) L size
+    middle = ap (take L) (front-means K once L old mid one size) ∙ take_at once (drop L (map K.means old)) L size

@@ -5,3 +5,4 @@ pub mod Laws
 pub mod Answers
 pub mod Scripts
 pub mod Whole
+pub mod Near

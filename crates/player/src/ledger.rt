@@ -1,8 +1,9 @@
 // Ledgers: what a ring's strips of charges are read and written by.
-ghost use Rattle.std.specs.Prelude.{◌≡◌, ◌+◌, ◌≤◌, map, length, take, drop, slice_set, slice_index_or};
+ghost use Rattle.std.specs.Prelude.{◌≡◌, ◌+◌, ◌<◌, ◌≤◌, map, length, take, drop, slice_set, slice_index_or};
 ghost use Rattle.automaton.specs.Words.{table};
 ghost use Rattle.criterion.specs.Strips.{FrontMeans};
 ghost use Rattle.player.specs.Calls.{booked};
+ghost use Rattle.player.specs.Near.{back, up_to};
 
 use crate::sites::SiteCharges;
 use charge::Charge;
@@ -90,6 +91,28 @@ impl<'a, C: Charge> Ledger<'a, C> {
             self.add(i, charges.charge_at(i));
         }
     }
+
+    // Adds to the charges of the `count` sites up to site i, going round.
+    fn book_back<S: SiteCharges<C>>(&mut self, i: usize, count: usize, charges: &S)
+        requires { (i < length self.old.sites.now) × (count ≤ length self.old.sites.now) }
+        ensures sites { map C.kind.means self.new.sites.now ≡ booked C.kind.group (up_to C.kind.group (length self.old.sites.now) i count (S.charges C.kind charges.now)) (map C.kind.means self.old.sites.now) }
+        ensures same { self.new.sites.ghost_name ≡ self.old.sites.ghost_name }
+    {
+        let len = self.sites.len();
+        for t in 0..count {
+            let site = site_before(len, i, t);
+            self.add(site, charges.charge_at(site));
+        }
+    }
+}
+
+// The site that stands t sites before site i of a ring.
+fn site_before(len: usize, i: usize, t: usize) -> usize
+    requires { (i < len) × (t < len) }
+    ensures within { result < len }
+    ensures back { back len i result ≡ t }
+{
+    if t <= i { i - t } else { len - (t - i) }
 }
 
 // Writes each site's charge.
@@ -104,6 +127,19 @@ fn book_strip<C: Charge, S: SiteCharges<C>>(strip: &mut [C], charges: &S)
     ensures { map C.kind.means strip.new ≡ booked C.kind.group (S.charges C.kind charges.now) (map C.kind.means strip.old) }
 {
     Ledger::new(strip).book(charges);
+}
+
+// Adds to the charges of the `count` sites up to site i, going round.
+fn book_strip_back<C: Charge, S: SiteCharges<C>>(
+    strip: &mut [C],
+    i: usize,
+    count: usize,
+    charges: &S,
+)
+    requires { (i < length strip.old) × (count ≤ length strip.old) }
+    ensures { map C.kind.means strip.new ≡ booked C.kind.group (up_to C.kind.group (length strip.old) i count (S.charges C.kind charges.now)) (map C.kind.means strip.old) }
+{
+    Ledger::new(strip).book_back(i, count, charges);
 }
 
 // The charge of site i, and zero past the last site.
@@ -128,4 +164,18 @@ pub(crate) fn book_front<C: Charge, S: SiteCharges<C>>(len: usize, strip: &mut [
     ensures { FrontMeans C.kind (booked C.kind.group (S.charges C.kind charges.now) (take len (map C.kind.means strip.old))) strip.old strip.new }
 {
     book_strip(&mut strip[..len], charges);
+}
+
+// Adds to the charges of the `count` sites up to site i of the ring of the first `len` sites.
+pub(crate) fn book_front_back<C: Charge, S: SiteCharges<C>>(
+    len: usize,
+    strip: &mut [C],
+    i: usize,
+    count: usize,
+    charges: &S,
+)
+    requires { (len ≤ length strip.old) × (i < len) × (count ≤ len) }
+    ensures { FrontMeans C.kind (booked C.kind.group (up_to C.kind.group len i count (S.charges C.kind charges.now)) (take len (map C.kind.means strip.old))) strip.old strip.new }
+{
+    book_strip_back(&mut strip[..len], i, count, charges);
 }

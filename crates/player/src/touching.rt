@@ -1,5 +1,5 @@
 // Putting a letter into a cell of the open ring.
-ghost use Rattle.std.specs.Prelude.{◌≡◌, ◌≤◌, [], map, length, take, Ok, Err, if◌then◌else◌, nat_lt, slice_set};
+ghost use Rattle.std.specs.Prelude.{◌≡◌, ◌<◌, ◌≤◌, min, [], map, length, take, Ok, Err, if◌then◌else◌, nat_lt, slice_set};
 ghost use Rattle.fault.specs.declared.Stop.TheVariants.{BadLetter};
 ghost use Rattle.fault.specs.Answers.{plainly};
 ghost use Rattle.fault.specs.Refusals.{refused_at};
@@ -7,32 +7,47 @@ ghost use Rattle.charge.specs.Groups.{minus};
 ghost use Rattle.criterion.specs.Strips.{FrontMeans};
 ghost use Rattle.player.specs.Calls.{charges, booked, checked, Does};
 ghost use Rattle.player.specs.Calls.Call.{touches};
+ghost use Rattle.player.specs.Near.{up_to};
 ghost use Rattle.player.specs.Answers.{strips, done_said, Stays};
 
-use crate::ledger::book_front;
+use crate::ledger::book_front_back;
 use crate::playing::Playing;
 use crate::sites::{Charges, Opposites, Sites};
 use automaton::{Density, Rule};
 use charge::Charge;
 use fault::{Fault, Stop};
 
-// Adds to touched each site's charge.
-fn book_sites<C: Charge, R: Rule, D: Density<C>>(sites: &Sites<'_, '_, C, R, D>, touched: &mut [C])
-    requires { length sites.now.ring.cells.now ≤ length touched.old }
-    ensures { FrontMeans C.kind (booked C.kind.group (charges C.kind (R.meaning sites.now.bench.now.parts.rule) (D.weights C.kind sites.now.bench.now.parts.density) sites.now.ring.cells.now) (take (length sites.now.ring.cells.now) (map C.kind.means touched.old))) touched.old touched.new }
+// How many sites have a cell of the ring in their window: as many as the window has cells, or all of them.
+fn holders<C: Charge, R: Rule, D: Density<C>>(sites: &Sites<'_, '_, C, R, D>) -> usize
+    ensures { result ≡ min (D.weights C.kind sites.now.bench.now.parts.density).k (length sites.now.ring.cells.now) }
 {
-    book_front(sites.ring.cells.len(), touched, &Charges { sites });
+    sites.bench.density().k().min(sites.ring.cells.len())
 }
 
-// Takes from touched each site's charge.
-fn unbook_sites<C: Charge, R: Rule, D: Density<C>>(
+// Adds to touched the charge of each site whose window holds the cell. Each of them starts at the cell or before it.
+fn book_sites<C: Charge, R: Rule, D: Density<C>>(
     sites: &Sites<'_, '_, C, R, D>,
+    cell: usize,
     touched: &mut [C],
 )
-    requires { length sites.now.ring.cells.now ≤ length touched.old }
-    ensures { FrontMeans C.kind (booked C.kind.group (λ i. C.kind.group.neg (charges C.kind (R.meaning sites.now.bench.now.parts.rule) (D.weights C.kind sites.now.bench.now.parts.density) sites.now.ring.cells.now i)) (take (length sites.now.ring.cells.now) (map C.kind.means touched.old))) touched.old touched.new }
+    requires { (cell < length sites.now.ring.cells.now) × (length sites.now.ring.cells.now ≤ length touched.old) }
+    ensures { FrontMeans C.kind (booked C.kind.group (up_to C.kind.group (length sites.now.ring.cells.now) cell (min (D.weights C.kind sites.now.bench.now.parts.density).k (length sites.now.ring.cells.now)) (charges C.kind (R.meaning sites.now.bench.now.parts.rule) (D.weights C.kind sites.now.bench.now.parts.density) sites.now.ring.cells.now)) (take (length sites.now.ring.cells.now) (map C.kind.means touched.old))) touched.old touched.new }
 {
-    book_front(sites.ring.cells.len(), touched, &Opposites { sites });
+    let len = sites.ring.cells.len();
+    book_front_back(len, touched, cell, holders(sites), &Charges { sites });
+}
+
+// Takes from touched the charge of each of these sites.
+fn unbook_sites<C: Charge, R: Rule, D: Density<C>>(
+    sites: &Sites<'_, '_, C, R, D>,
+    cell: usize,
+    touched: &mut [C],
+)
+    requires { (cell < length sites.now.ring.cells.now) × (length sites.now.ring.cells.now ≤ length touched.old) }
+    ensures { FrontMeans C.kind (booked C.kind.group (up_to C.kind.group (length sites.now.ring.cells.now) cell (min (D.weights C.kind sites.now.bench.now.parts.density).k (length sites.now.ring.cells.now)) (λ i. C.kind.group.neg (charges C.kind (R.meaning sites.now.bench.now.parts.rule) (D.weights C.kind sites.now.bench.now.parts.density) sites.now.ring.cells.now i))) (take (length sites.now.ring.cells.now) (map C.kind.means touched.old))) touched.old touched.new }
+{
+    let len = sites.ring.cells.len();
+    book_front_back(len, touched, cell, holders(sites), &Opposites { sites });
 }
 
 impl<C: Charge, R: Rule, D: Density<C>> Playing<C, R, D> {
@@ -62,9 +77,9 @@ impl<C: Charge, R: Rule, D: Density<C>> Playing<C, R, D> {
         ensures cells { cells.new ≡ slice_set cells.old site letter }
         ensures touched { FrontMeans C.kind (booked C.kind.group (λ j. minus C.kind.group (charges C.kind (R.meaning self.now.bench.parts.rule) (D.weights C.kind self.now.bench.parts.density) (slice_set (take self.now.len cells.old) site letter) j) (charges C.kind (R.meaning self.now.bench.parts.rule) (D.weights C.kind self.now.bench.parts.density) (take self.now.len cells.old) j)) (take self.now.len (map C.kind.means touched.old))) touched.old touched.new }
     {
-        unbook_sites(&self.sites(cells), touched);
+        unbook_sites(&self.sites(cells), site, touched);
         cells[site] = letter;
-        book_sites(&self.sites(cells), touched);
+        book_sites(&self.sites(cells), site, touched);
     }
 
     // Puts a letter into a cell. At each site it adds to touched the site's charge afterwards less its charge before.

@@ -1,4 +1,4 @@
-use Rattle.std.proofs.Common.{ℕ, length, List, [], map, take, set, ◌≡◌, sym, ◌∙◌, subst, arith}
+use Rattle.std.proofs.Common.{ℕ, min, length, List, [], map, take, set, ◌≡◌, sym, ◌∙◌, subst, arith}
 use Rattle.std.proofs.lemmas.List.{length-map, length-take-le, length-set}
 use Rattle.std.proofs.Math.Seq.{take-set-lt}
 use Rattle.automaton.specs.Words.{Letters}
@@ -10,6 +10,9 @@ use Rattle.player.specs.Answers.{strips}
 use Rattle.player.proofs.Passed.{letters_passed, front_below, last_below, touches_fit}
 use Rattle.player.proofs.Kept.{letters_set}
 use Rattle.player.proofs.Touches.{front-twice}
+use Rattle.player.proofs.Near.{near_gains}
+use Rattle.player.specs.Near.{up_to}
+use Rattle.charge.specs.Groups.{minus}
 use Rattle.player.proofs.playing.Playing.touch_on.Goals as goal
 
 pub sites-requires-clause-letters : goal.sites-requires-clause-letters
@@ -33,21 +36,26 @@ sites-requires-2-clause-letters g c =
 pub returns-clause-touched : goal.returns-clause-touched
 returns-clause-touched g c =
     let K = g.C.Charge.kind in
+    let G = K.group in
     let a = c.args in
     let L = a.self.now.len in
     let at : Local × Weights K.group.Carrier × List ℕ → ℕ → K.group.Carrier = λ x. charges K x.0 x.1 x.2 in
     let r = g.R.Rule.meaning a.self.now.bench.parts.rule in
     let d = g.D.Density.weights K a.self.now.bench.parts.density in
     let fit = touches_fit r.q L a.site a.letter (strips K a.cells.now [] [] [] a.touched.now) c.requires in
-    let size : length (take L a.cells.now) ≡ L = length-take-le L a.cells.now fit.0 in
+    let front = take L a.cells.now in
+    let size : length front ≡ L = length-take-le L a.cells.now fit.0 in
     let made = c.sites.ensures in
     let made-2 = c.sites-2.ensures in
+    let old = a.touched.now in
     let mid = c.unbook_sites.new.touched in
-    front-twice K (charges K r d (take L a.cells.now)) (charges K r d (set (take L a.cells.now) a.site a.letter)) L a.touched.now mid c.book_sites.new.touched (omega (arith, fit.1, length-map a.touched.now K.means))
-    (subst (λ n. FrontMeans K (booked K.group (λ i. K.group.neg (charges K r d (take L a.cells.now) i)) (take n (map K.means a.touched.now))) a.touched.now mid) size
-    (subst (λ x. FrontMeans K (booked K.group (λ i. K.group.neg (at x i)) (take (length x.2) (map K.means a.touched.now))) a.touched.now mid)
+    front-twice K (up_to G L a.site (min d.k L) (λ i. G.neg (charges K r d front i))) (up_to G L a.site (min d.k L) (charges K r d (set front a.site a.letter)))
+    (λ i. minus G (charges K r d (set front a.site a.letter) i) (charges K r d front i)) L old mid c.book_sites.new.touched (omega (arith, fit.1, length-map old K.means))
+    (λ i h. near_gains K r d front L a.site a.letter i size fit.2 h)
+    (subst (λ n. FrontMeans K (booked G (up_to G n a.site (min d.k n) (λ i. G.neg (charges K r d front i))) (take n (map K.means old))) old mid) size
+    (subst (λ x. FrontMeans K (booked G (up_to G (length x.2) a.site (min x.1.k (length x.2)) (λ i. G.neg (at x i))) (take (length x.2) (map K.means old))) old mid)
     (λ j. (g.R.Rule.meaning (made.bench j).parts.rule, g.D.Density.weights K (made.bench j).parts.density, made.ring j)) c.unbook_sites.ensures))
-    (subst (λ n. FrontMeans K (booked K.group (charges K r d (set (take L a.cells.now) a.site a.letter)) (take n (map K.means mid))) mid c.book_sites.new.touched)
-    (length-set (take L a.cells.now) a.site a.letter ∙ size)
-    (subst (λ x. FrontMeans K (booked K.group (at x) (take (length x.2) (map K.means mid))) mid c.book_sites.new.touched)
+    (subst (λ n. FrontMeans K (booked G (up_to G n a.site (min d.k n) (charges K r d (set front a.site a.letter))) (take n (map K.means mid))) mid c.book_sites.new.touched)
+    (length-set front a.site a.letter ∙ size)
+    (subst (λ x. FrontMeans K (booked G (up_to G (length x.2) a.site (min x.1.k (length x.2)) (at x)) (take (length x.2) (map K.means mid))) mid c.book_sites.new.touched)
     (λ j. (g.R.Rule.meaning (made-2.bench j).parts.rule, g.D.Density.weights K (made-2.bench j).parts.density, (made-2.ring ∙ take-set-lt L a.cells.now a.site a.letter fit.2) j)) c.book_sites.ensures))
