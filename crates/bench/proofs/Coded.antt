@@ -1,37 +1,11 @@
 -- Labels by the codes of words. Assumes nothing.
-use Rattle.std.proofs.Common.{◌≡◌, ℕ, ◌+◌, ◌-◌, ◌*◌, ◌/◌, ◌%◌, ◌^◌, ◌<◌, ◌≤◌, max, List, get_or, take, drop, sym, refl, ap, ◌∙◌, ap₂, mul-le-mul_left, arith, pow_mono, pow-add}
-use Rattle.std.proofs.lemmas.Int.Digits.{number_push}
+use Rattle.std.proofs.Common.{◌≡◌, ℕ, ◌+◌, ◌-◌, ◌/◌, ◌%◌, ◌^◌, ◌<◌, ◌≤◌, max, List, get_or, take, drop, sym, refl, ap, ◌∙◌, ap₂, arith}
 use Rattle.charge.specs.Groups.{Group, minus}
-use Rattle.automaton.specs.Words.{code, word, table}
-use Rattle.automaton.specs.Meanings.{Local, Weights, answer, weight}
+use Rattle.automaton.specs.Words.{code, word}
+use Rattle.automaton.specs.Meanings.{Local, Weights, weight}
 use Rattle.automaton.proofs.Parts.{part-code}
-use Rattle.automaton.proofs.Rings.{window-append, get_or-table, table-past}
+use Rattle.automaton.proofs.Rings.{get_or-table, table-past}
 use Rattle.bench.specs.Labels.{next_letters, rule_label, rule_label_list, two_label, listed}
-
--- one answer more, of which is known only that it is a byte
-pub next_bound : (x q a j : ℕ) → x < 2 ^ (9 + 4 * j) → q ≤ 8 → a < 256 → x * q + a < 2 ^ (9 + 4 * (j + 1))
-next_bound x q a j hx hq ha =
-    let e : 2 ^ (9 + 4 * (j + 1)) ≡ 2 ^ (9 + 4 * j) * 16 = ap (λ n. 2 ^ n) (omega arith) ∙ pow-add 2 (9 + 4 * j) 4 in
-    let some : 2 ^ 9 ≤ 2 ^ (9 + 4 * j) = pow_mono {i = 9} {j = 9 + 4 * j} (omega arith) in
-    let m : x * q ≤ x * 8 = mul-le-mul_left x hq in
-    omega arith
-
-pub next_fits : (x j : ℕ) → x < 2 ^ (9 + 4 * (j + 1)) → j < 12 → x < 2 ^ 64
-next_fits x j h lt = let top : 2 ^ (9 + 4 * (j + 1)) ≤ 2 ^ 57 = pow_mono {i = 9 + 4 * (j + 1)} {j = 57} (omega arith) in omega arith
-
--- one next letter more
-pub next_more : (r : Local) (k c j x p a : ℕ) → 1 ≤ r.q → 1 ≤ r.n → j < k →
-    x ≡ code r.q (next_letters r j (word r.q (r.n + k - 1) c)) → p ≡ c / (r.q ^ (k - 1 - j)) % (r.q ^ r.n) → a ≡ get_or r.answers p 0 →
-    x * r.q + a ≡ code r.q (next_letters r (j + 1) (word r.q (r.n + k - 1) c))
-next_more r k c j x p a some wide within ex ep ea =
-    let w : List ℕ = word r.q (r.n + k - 1) c in
-    let letter : ℕ → ℕ = λ i. answer r (take r.n (drop i w)) in
-    let rest : r.n + k - 1 - r.n - j ≡ k - 1 - j = omega arith in
-    let part : code r.q (take r.n (drop j w)) ≡ p = part-code r.q some (r.n + k - 1) r.n j c (omega arith) ∙ ap (λ t. c / r.q ^ t % r.q ^ r.n) rest ∙ sym ep in
-    let same : letter (0 + j) ≡ a = ap letter (omega arith) ∙ ap (λ t. get_or r.answers t 0) part ∙ sym ea in
-    sym (ap (code r.q) (window-append j 1 letter 0)
-    ∙ number_push r.q (table j letter) (letter (0 + j))
-    ∙ ap₂ (λ s t. s * r.q + t) (sym ex) same)
 
 module _ {A : Type 0} (none : A) (q m : ℕ) (d : List ℕ → A) (c : ℕ) where
   listed_at : c < q ^ m → get_or (listed q m d).charges c none ≡ d (word q m c)

@@ -1,15 +1,16 @@
 -- The next letters of a word, by those of its front. Assumes nothing.
-use Rattle.std.proofs.Common.{◌≡◌, ℕ, suc, ◌+◌, ◌-◌, ◌*◌, ◌/◌, ◌%◌, ◌^◌, ◌<◌, ◌≤◌, max, List, length, get_or, take, drop, set, ⊎_elim, sym, ap, ◌∙◌, ap₂, subst, mod-lt, mul_comm, pow-suc, div-one, arith, mul-le-mul_left, mul-le-mul_right}
-use native.Mathlib.Nat.{pow-le-pow_right, pow-zero, div-div-eq-div-mul}
+use Rattle.std.proofs.Common.{mul_assoc, add_assoc, add_comm, zero-mul, add-one, refl, [], ◌∷◌, ◌≡◌, ℕ, suc, ◌+◌, ◌-◌, ◌*◌, ◌/◌, ◌%◌, ◌^◌, ◌<◌, ◌≤◌, max, List, length, get_or, take, drop, set, ⊎_elim, sym, ap, ◌∙◌, ap₂, subst, mod-lt, mul_comm, pow-suc, div-one, arith, mul-le-mul_left, mul-le-mul_right}
+use native.Mathlib.Nat.{add-mul, pow-le-pow_right, pow-zero, div-div-eq-div-mul}
 use Rattle.std.proofs.lemmas.Bool.{cases_lt}
 use Rattle.std.proofs.lemmas.Grind.{get_or-set_at}
 use Rattle.std.proofs.lemmas.List.{get_or-set_other}
+use Rattle.std.specs.Int.Digits.{number_from_digits_after}
 use Rattle.std.proofs.lemmas.Int.Digits.{number_push}
-use Rattle.automaton.specs.Words.{Letters, Word, code, word, table}
+use Rattle.automaton.specs.Words.{Letters, Word, code, word, window, table}
 use Rattle.automaton.specs.Meanings.{Local, Lawful, answer}
 use Rattle.automaton.proofs.Codes.{code_lt, code-word, word-code, drop-word, power-some}
 use Rattle.automaton.proofs.Parts.{part-code}
-use Rattle.automaton.proofs.Rings.{window_same, window-append, window-word}
+use Rattle.automaton.proofs.Rings.{length-window, window_same, window-append, window-word}
 use Rattle.automaton.proofs.Steps.{letters_any}
 use lib.Arith.{digits_lt, digits_div, digits_mod, mod-mul}
 use Rattle.bench.specs.declared.sizes.RuleSizes.{RuleSizes}
@@ -23,7 +24,22 @@ code-drop q some p w is =
     ∙ ap (code q) (drop-word q some p (code q w))
     ∙ code-word q some p (code q w % q ^ p) (mod-lt (code q w) (power-some q some p))
 
-module _ (r : Local) (some : 0 < r.q) (wide : 1 ≤ r.n) (below : Letters r.q r.answers) (k : ℕ) (long : 1 ≤ k) where
+-- a word with one more letter at its front, by codes
+code_after : (q n : ℕ) (w : List ℕ) → number_from_digits_after q n w ≡ n * q ^ length w + code q w
+code_after q n [] = sym (ap (λ p. n * p + 0) (pow-zero q) ∙ omega arith)
+code_after q n (a ∷ w) =
+    let P : ℕ = q ^ length w in
+    code_after q (n * q + a) w
+    ∙ ap (λ t. t + code q w) (add-mul (n * q) a P ∙ ap (λ t. t + a * P) (mul_assoc n q P ∙ ap (λ t. n * t) (mul_comm q P ∙ sym (pow-suc q (length w)))))
+    ∙ add_assoc (n * q ^ suc (length w)) (a * P) (code q w)
+    ∙ ap (λ t. n * q ^ suc (length w) + t) (sym (ap (λ t. number_from_digits_after q t w) (omega (arith, zero-mul q)) ∙ code_after q a w))
+
+code-first : (q a : ℕ) (w : List ℕ) → code q (a ∷ w) ≡ a * q ^ length w + code q w
+code-first q a w =
+    let plain : 0 * q + a ≡ a = omega (arith, zero-mul q) in
+    ap (λ t. number_from_digits_after q t w) plain ∙ code_after q a w
+
+module _ (r : Local) (k : ℕ) where
   -- the next letter j of the word of code c, and the code of all of them
   abbrev letter : ℕ → ℕ → ℕ
   letter c j = answer r (take r.n (drop j (word r.q (r.n + k - 1) c)))
@@ -31,56 +47,91 @@ module _ (r : Local) (some : 0 < r.q) (wide : 1 ≤ r.n) (below : Letters r.q r.
   abbrev nexts : ℕ → ℕ
   nexts c = code r.q (next_letters r k (word r.q (r.n + k - 1) c))
 
-  letter-at : (c j : ℕ) → j < k → letter c j ≡ get_or r.answers (c / r.q ^ (k - 1 - j) % r.q ^ r.n) 0
+  -- the code of the last j next letters, the front of the word that the others are found in, and the place of the next one
+  abbrev pub Tail : ℕ → ℕ → ℕ → ℕ → ℕ → Type 0
+  Tail c j front place next =
+      (front ≡ c / r.q ^ j) × (place ≡ r.q ^ j) × (next < 256 * place) × (next ≡ code r.q (window j (letter c) (k - j)))
+
+module _ (r : Local) (some : 0 < r.q) (wide : 1 ≤ r.n) (k : ℕ) (long : 1 ≤ k) where
+  letter-at : (c j : ℕ) → j < k → letter r k c j ≡ get_or r.answers (c / r.q ^ (k - 1 - j) % r.q ^ r.n) 0
   letter-at c j h =
       let after : r.n + k - 1 - r.n - j ≡ k - 1 - j = omega arith in
       ap (λ t. get_or r.answers t 0)
       (part-code r.q some (r.n + k - 1) r.n j c (omega arith) ∙ ap (λ n. c / r.q ^ n % r.q ^ r.n) after)
 
-  letter_below : (c j : ℕ) → letter c j < r.q
-  letter_below c j = letters_any r.q some r.answers below _
+  -- one next letter more
+  pub tail_more : (c j front place next a : ℕ) → 2 ≤ r.q → j < k → a < 256 → a ≡ get_or r.answers (front % r.q ^ r.n) 0 →
+      Tail r k c j front place next → Tail r k c (j + 1) (front / r.q) (place * r.q) (next + a * place)
+  tail_more c j front place next a two h byte is (fronts, places, small, tail) =
+      let more : place * 2 ≤ place * r.q = mul-le-mul_left place two in
+      let most : a * place ≤ 255 * place = mul-le-mul_right place (omega arith) in
+      let size : length (window j (letter r k c) (k - j)) ≡ j = length-window j (letter r k c) (k - j) in
+      let first : suc (k - (j + 1)) ≡ k - j = omega arith in
+      let here : a ≡ letter r k c (k - (j + 1)) =
+      is
+      ∙ ap (λ t. get_or r.answers (t % r.q ^ r.n) 0) (fronts ∙ ap (λ n. c / r.q ^ n) (omega arith))
+      ∙ sym (letter-at c (k - (j + 1)) (omega arith)) in (
+        ap (λ t. t / r.q) fronts ∙ div-div-eq-div-mul c (r.q ^ j) r.q ∙ ap (λ p. c / p) (sym (pow-suc r.q j) ∙ ap (λ n. r.q ^ n) (sym (add-one j))),
+        ap (λ t. t * r.q) places ∙ sym (pow-suc r.q j) ∙ ap (λ n. r.q ^ n) (sym (add-one j)),
+        omega arith,
+        ap₂ (λ x y. x + y) tail (ap₂ ◌*◌ here (places ∙ ap (λ n. r.q ^ n) (sym size)))
+            ∙ add_comm (code r.q (window j (letter r k c) (k - j))) (letter r k c (k - (j + 1)) * r.q ^ length (window j (letter r k c) (k - j)))
+            ∙ sym (code-first r.q (letter r k c (k - (j + 1))) (window j (letter r k c) (k - j)))
+            ∙ ap (λ i. code r.q (letter r k c (k - (j + 1)) ∷ window j (letter r k c) i)) (sym first)
+            ∙ ap (λ n. code r.q (window n (letter r k c) (k - (j + 1)))) (sym (add-one j)),
+      )
 
-  nexts-word : (c : ℕ) → Word r.q k (table k (letter c))
-  nexts-word c = window-word r.q k (letter c) (letter_below c) 0
+  pub tail_all : (c j front place next : ℕ) → j ≡ k → Tail r k c j front place next → next ≡ nexts r k c
+  tail_all c j front place next all t = t.3 ∙ ap₂ (λ n i. code r.q (window n (letter r k c) i)) all (omega arith)
 
-  pub nexts-below : (c : ℕ) → nexts c < r.q ^ k
-  nexts-below c = code_lt r.q k (table k (letter c)) (nexts-word c)
+  pub tail_none : (c : ℕ) → Tail r k c 0 c 1 0
+  tail_none c = (sym (ap (λ p. c / p) (pow-zero r.q) ∙ div-one c), sym (pow-zero r.q), omega arith, refl)
 
-  -- a letter of the word is the letter after it of the front
-  letter-front : (c j : ℕ) → suc j < k → letter c j ≡ letter (c / r.q) (suc j)
-  letter-front c j h =
-      let one : suc (k - 1 - suc j) ≡ k - 1 - j = omega arith in
-      letter-at c j (omega arith)
-      ∙ ap (λ t. get_or r.answers (t % r.q ^ r.n) 0)
-      (ap (λ t. c / t) (ap (λ n. r.q ^ n) (sym one) ∙ pow-suc r.q (k - 1 - suc j) ∙ mul_comm (r.q ^ (k - 1 - suc j)) r.q)
-      ∙ sym (div-div-eq-div-mul c r.q (r.q ^ (k - 1 - suc j))))
-      ∙ sym (letter-at (c / r.q) (suc j) h)
+  module _ (below : Letters r.q r.answers) where
+    letter_below : (c j : ℕ) → letter r k c j < r.q
+    letter_below c j = letters_any r.q some r.answers below _
 
-  letter_last : (c : ℕ) → letter c (k - 1) ≡ get_or r.answers (c % r.q ^ r.n) 0
-  letter_last c =
-      let none : k - 1 - (k - 1) ≡ 0 = omega arith in
-      letter-at c (k - 1) (omega arith)
-      ∙ ap (λ t. get_or r.answers (t % r.q ^ r.n) 0) (ap (λ n. c / r.q ^ n) none ∙ ap (λ p. c / p) (pow-zero r.q) ∙ div-one c)
+    nexts-word : (c : ℕ) → Word r.q k (table k (letter r k c))
+    nexts-word c = window-word r.q k (letter r k c) (letter_below c) 0
 
-  pub nexts-front : (c : ℕ) → nexts (c / r.q) % r.q ^ (k - 1) * r.q + get_or r.answers (c % r.q ^ r.n) 0 ≡ nexts c
-  nexts-front c =
-      let p = k - 1 in
-      let size : suc p ≡ k = omega arith in
-      let size_plus : p + 1 ≡ k = omega arith in
-      let tail : table p (letter c) ≡ drop 1 (table (suc p) (letter (c / r.q))) =
-      window_same p (letter c) (letter (c / r.q)) 0 1 (λ t h.
-      let here : 0 + t ≡ t = omega arith in
-      let there : suc t ≡ 1 + t = omega arith in
-      ap (letter c) here ∙ letter-front c t (omega arith) ∙ ap (letter (c / r.q)) there) in
-      let fewer : code r.q (table p (letter c)) ≡ nexts (c / r.q) % r.q ^ p =
-      ap (code r.q) tail
-      ∙ code-drop r.q some p (table (suc p) (letter (c / r.q))) (subst (λ n. Word r.q n (table n (letter (c / r.q)))) (sym size) (nexts-word (c / r.q)))
-      ∙ ap (λ n. code r.q (table n (letter (c / r.q))) % r.q ^ p) size in
-      let place : p ≡ 0 + p = omega arith in
-      ap₂ (λ s t. s * r.q + t) (sym fewer) (sym (letter_last c) ∙ ap (letter c) place)
-      ∙ sym (number_push r.q (table p (letter c)) (letter c (0 + p)))
-      ∙ ap (code r.q) (sym (window-append p 1 (letter c) 0))
-      ∙ ap (λ n. code r.q (table n (letter c))) size_plus
+    pub nexts-below : (c : ℕ) → nexts r k c < r.q ^ k
+    nexts-below c = code_lt r.q k (table k (letter r k c)) (nexts-word c)
+
+    -- a letter of the word is the letter after it of the front
+    letter-front : (c j : ℕ) → suc j < k → letter r k c j ≡ letter r k (c / r.q) (suc j)
+    letter-front c j h =
+        let one : suc (k - 1 - suc j) ≡ k - 1 - j = omega arith in
+        letter-at c j (omega arith)
+        ∙ ap (λ t. get_or r.answers (t % r.q ^ r.n) 0)
+        (ap (λ t. c / t) (ap (λ n. r.q ^ n) (sym one) ∙ pow-suc r.q (k - 1 - suc j) ∙ mul_comm (r.q ^ (k - 1 - suc j)) r.q)
+        ∙ sym (div-div-eq-div-mul c r.q (r.q ^ (k - 1 - suc j))))
+        ∙ sym (letter-at (c / r.q) (suc j) h)
+
+    letter_last : (c : ℕ) → letter r k c (k - 1) ≡ get_or r.answers (c % r.q ^ r.n) 0
+    letter_last c =
+        let none : k - 1 - (k - 1) ≡ 0 = omega arith in
+        letter-at c (k - 1) (omega arith)
+        ∙ ap (λ t. get_or r.answers (t % r.q ^ r.n) 0) (ap (λ n. c / r.q ^ n) none ∙ ap (λ p. c / p) (pow-zero r.q) ∙ div-one c)
+
+    pub nexts-front : (c : ℕ) → nexts r k (c / r.q) % r.q ^ (k - 1) * r.q + get_or r.answers (c % r.q ^ r.n) 0 ≡ nexts r k c
+    nexts-front c =
+        let p = k - 1 in
+        let size : suc p ≡ k = omega arith in
+        let size_plus : p + 1 ≡ k = omega arith in
+        let tail : table p (letter r k c) ≡ drop 1 (table (suc p) (letter r k (c / r.q))) =
+        window_same p (letter r k c) (letter r k (c / r.q)) 0 1 (λ t h.
+        let here : 0 + t ≡ t = omega arith in
+        let there : suc t ≡ 1 + t = omega arith in
+        ap (letter r k c) here ∙ letter-front c t (omega arith) ∙ ap (letter r k (c / r.q)) there) in
+        let fewer : code r.q (table p (letter r k c)) ≡ nexts r k (c / r.q) % r.q ^ p =
+        ap (code r.q) tail
+        ∙ code-drop r.q some p (table (suc p) (letter r k (c / r.q))) (subst (λ n. Word r.q n (table n (letter r k (c / r.q)))) (sym size) (nexts-word (c / r.q)))
+        ∙ ap (λ n. code r.q (table n (letter r k (c / r.q))) % r.q ^ p) size in
+        let place : p ≡ 0 + p = omega arith in
+        ap₂ (λ s t. s * r.q + t) (sym fewer) (sym (letter_last c) ∙ ap (letter r k c) place)
+        ∙ sym (number_push r.q (table p (letter r k c)) (letter r k c (0 + p)))
+        ∙ ap (code r.q) (sym (window-append p 1 (letter r k c) 0))
+        ∙ ap (λ n. code r.q (table n (letter r k c))) size_plus
 
 -- one more entry of a strip of which the first entries are known
 module _ (f : ℕ → ℕ) (strip : List ℕ) (n v : ℕ) where
@@ -92,9 +143,6 @@ module _ (f : ℕ → ℕ) (strip : List ℕ) (n v : ℕ) where
       (cases_lt c n)
 
 module _ (s : RuleSizes) where
-  pub windows_some : 0 < s.windows
-  windows_some = omega (arith, s.counts.0, power-some s.words.q (omega (arith, s.words.sizes.0)) s.n)
-
   -- the words of all letters but the last, with one letter more, are all words
   pub heads_count : s.words.count / s.words.q * s.words.q ≡ s.words.count
   heads_count =
@@ -136,7 +184,7 @@ module _ (s : RuleSizes) (r : Local) (lawful : Lawful r) (same : sized_rule s r 
   next-small c =
       let some : 0 < s.words.q = omega (arith, s.words.sizes.0) in
       let few : s.words.q ^ s.k ≤ s.words.q ^ s.words.m = pow-le-pow_right some (omega (arith, s.whole, s.reach)) in
-      omega (arith, nexts-below (sized_rule s r) some (omega (arith, s.reach)) sized_lawful.letters s.k s.some c, few, s.words.sizes.4)
+      omega (arith, nexts-below (sized_rule s r) some (omega (arith, s.reach)) s.k s.some sized_lawful.letters c, few, s.words.sizes.4)
 
   pub extended : (strip : List ℕ) (head last a : ℕ) → NextWords s r (max 1 (head * s.words.q)) strip → last < s.words.q →
       a ≡ get_or r.answers (head * s.words.q % s.windows + last) 0 → get_or strip head 0 % s.kept * s.words.q + a ≡ next_word s r (head * s.words.q + last)
@@ -149,4 +197,4 @@ module _ (s : RuleSizes) (r : Local) (lawful : Lawful r) (same : sized_rule s r 
       ap₂ (λ x y. x * q + y)
       (ap₂ (λ x y. x % y) front s.counts.1)
       (is ∙ ap (λ t. get_or r.answers t 0) (sym (window_more s head last below)))
-      ∙ nexts-front (sized_rule s r) some (omega (arith, s.reach)) sized_lawful.letters s.k s.some (head * q + last)
+      ∙ nexts-front (sized_rule s r) some (omega (arith, s.reach)) s.k s.some sized_lawful.letters (head * q + last)

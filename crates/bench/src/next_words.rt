@@ -2,30 +2,31 @@
 ghost use Rattle.std.specs.Prelude.{◌≡◌, ◌+◌, ◌-◌, ◌/◌, ◌%◌, ◌^◌, ◌<◌, ◌*◌, max, length, slice_index};
 ghost use Rattle.bench.specs.Sized.{sized_rule, next_word, NextWords};
 
-use crate::parts::Part;
 use crate::sizes::RuleSizes;
 use crate::state::Parts;
 use automaton::Rule;
 
 impl<R: Rule, D> Parts<R, D> {
-    // The answer for the n letters of a word that `after` letters follow.
-    fn answer_at(&self, sizes: RuleSizes, after: usize, code: usize) -> u8
-        requires { after < sizes.k }
-        ensures { result ≡ slice_index (R.meaning self.now.rule).answers (code / (sizes.words.q ^ after) % (sizes.words.q ^ sizes.n)) }
+    // The answer for the last n letters of a word.
+    fn last_letter(&self, sizes: RuleSizes, code: usize) -> u8
+        ensures { result ≡ slice_index (R.meaning self.now.rule).answers (code % sizes.words.q ^ sizes.n) }
     {
-        let place = Part::of(sizes.words, sizes.n, after).code(code);
-        self.rule.answer(place)
+        self.rule.answer(code % sizes.windows)
     }
 
-    // The code of the next letters of a word, one answer a letter. Cold, so that a label that finds them in a table stays
-    // small where it is inlined.
+    // The code of the next letters of a word, from the last letter on. Cold, so that a label that finds them in a table
+    // stays small where it is inlined.
     #[cold]
     pub(crate) fn next_code(&self, sizes: RuleSizes, code: usize) -> usize
         ensures { result ≡ next_word sizes (R.meaning self.now.rule) code }
     {
+        let mut front = code;
+        let mut place = 1;
         let mut next = 0;
-        for after in (0..sizes.k).rev() {
-            next = next * sizes.words.q + self.answer_at(sizes, after, code) as usize;
+        for _ in 0..sizes.k {
+            next += self.last_letter(sizes, front) as usize * place;
+            place *= sizes.words.q;
+            front /= sizes.words.q;
         }
         next
     }

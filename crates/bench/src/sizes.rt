@@ -26,6 +26,7 @@ pub struct RuleSizes {
     ghost reach: { l < n },
     ghost some: { 1 ≤ k },
     ghost whole: { words.m ≡ n + k - 1 },
+    ghost divides: { (1 ≤ windows) × (1 ≤ kept) },
     ghost counts: { (windows ≡ words.q ^ n) × (kept ≡ words.q ^ (k - 1)) },
     ghost middle: { (weighed.after ≡ words.q ^ (n - 1 - l)) × (weighed.count ≡ words.q ^ k) },
 }

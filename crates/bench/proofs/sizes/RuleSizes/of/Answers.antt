@@ -1,4 +1,5 @@
-use Rattle.std.proofs.Common.{arith}
+use Rattle.std.proofs.Common.{◌-◌, ◌<◌, arith}
+use Rattle.automaton.proofs.Codes.{power-some}
 use Rattle.bench.proofs.Fits.{words_sizes}
 use Rattle.bench.proofs.sizes.RuleSizes.of.Goals as goal
 
@@ -10,3 +11,9 @@ invariant_of-words g c =
     let density = weighed.sizes in
     let p = words_sizes _ _ _ _ (omega arith) (omega arith) (omega arith) c.in_ok-count.ensures in
     record { sizes = p.0; counted = p.1 }
+
+pub invariant_of-result-clause-divides : goal.invariant_of-result-clause-divides
+invariant_of-result-clause-divides g c =
+    let lawful = g.R.Rule.lawful c.args.parts.now.rule in
+    let some : 0 < c.q-q.result = omega (arith, lawful.sizes.0, c.q-q.ensures) in
+    (omega (arith, c.pow.ensures, power-some c.q-q.result some c.n-n.result), omega (arith, c.pow-2.ensures, power-some c.q-q.result some (c.k-k.result - 1)))

@@ -1,10 +1,7 @@
 use Rattle.std.proofs.Common.{ℕ, ◌+◌, ◌*◌, ◌∙◌, arith, length-set}
 use Rattle.bench.specs.Sized.{next_word}
-use Rattle.bench.proofs.NextWords.{windows_some, next-small, extended-within, extended, known-more}
+use Rattle.bench.proofs.NextWords.{next-small, extended-within, extended, known-more}
 use Rattle.bench.proofs.state.Parts.extend.Goals as goal
-
-pub nonzero_rem-place : goal.nonzero_rem-place
-nonzero_rem-place g c = windows_some c.args.sizes
 
 pub overflow_cast-strip-in-loop-last : goal.overflow_cast-strip-in-loop-last
 overflow_cast-strip-in-loop-last g c =

@@ -1,41 +1,43 @@
-use Rattle.std.proofs.Common.{◌≡◌, ℕ, ◌+◌, ◌-◌, ◌*◌, ◌^◌, ◌<◌, ◌/◌, ◌%◌, ap, subst, arith}
-use Rattle.automaton.specs.Words.{code, word}
-use Rattle.bench.specs.Labels.{next_letters}
+use Rattle.std.proofs.Common.{◌≤◌, ◌*◌, arith, mul-le-mul_left, mul-le-mul_right}
+use Rattle.fault.proofs.Powers.{power_bound}
 use Rattle.bench.specs.Sized.{sized_rule}
-use Rattle.bench.proofs.Coded.{next_bound, next_fits, next_more}
+use Rattle.bench.proofs.NextWords.{tail_none, tail_more, tail_all}
 use Rattle.bench.proofs.state.Parts.next_code.Goals as goal
 
 pub overflow_mul-next : goal.overflow_mul-next
 overflow_mul-next g c =
     let s = c.args.sizes in
-    let few = s.words.sizes in
-    let whole = s.whole in
-    let reach = s.reach in
-    let j = s.k - c.loop-after.after in
-    let b = next_bound c.loop-after.next s.words.q 0 j c.loop-after.invariant.0 few.1 (omega arith) in
-    omega (arith, next_fits _ j b (omega arith))
+    let up = power_bound s.words.q c.loop.counter s.words.sizes.1 (omega (arith, s.whole, s.reach, s.words.sizes.3)) in
+    let most : c.last_letter.result * c.loop.place ≤ 255 * c.loop.place = mul-le-mul_right c.loop.place (omega arith) in
+    omega (arith, up, most, c.loop.invariant.1)
 
 pub overflow_add-next : goal.overflow_add-next
 overflow_add-next g c =
     let s = c.args.sizes in
-    let few = s.words.sizes in
-    let whole = s.whole in
-    let reach = s.reach in
-    let j = s.k - c.loop-after.after in
-    let b = next_bound c.loop-after.next s.words.q c.answer_at.result j c.loop-after.invariant.0 few.1 c.answer_at.type_inv in
-    omega (arith, next_fits _ j b (omega arith))
+    let up = power_bound s.words.q c.loop.counter s.words.sizes.1 (omega (arith, s.whole, s.reach, s.words.sizes.3)) in
+    let most : c.last_letter.result * c.loop.place ≤ 255 * c.loop.place = mul-le-mul_right c.loop.place (omega arith) in
+    omega (arith, up, most, c.loop.invariant.1, c.loop.invariant.2)
 
-pub loop-after-preserved : goal.loop-after-preserved
-loop-after-preserved g c =
+pub overflow_mul-place : goal.overflow_mul-place
+overflow_mul-place g c =
     let s = c.args.sizes in
-    let few = s.words.sizes in
-    let reach = s.reach in
-    let r = sized_rule s (g.R.Rule.meaning c.args.self.now.rule) in
-    let j = s.k - c.loop-after.after in
-    let x : ℕ = c.loop-after.next * s.words.q + c.answer_at.result in
-    let more : j + 1 ≡ s.k - (c.loop-after.after - 1) = omega arith in
-    let place : c.loop-after.after - 1 ≡ s.k - 1 - j = omega arith in (
-      subst (λ n. x < 2 ^ (9 + 4 * n)) more (next_bound c.loop-after.next s.words.q c.answer_at.result j c.loop-after.invariant.0 few.1 c.answer_at.type_inv),
-      subst (λ n. x ≡ code s.words.q (next_letters r n (word s.words.q (s.n + s.k - 1) c.args.code))) more
-          (next_more r s.k c.args.code j c.loop-after.next _ c.answer_at.result (omega arith) (omega arith) (omega arith) c.loop-after.invariant.1 (ap (λ t. c.args.code / (s.words.q ^ t) % (s.words.q ^ s.n)) place) c.answer_at.ensures),
-    )
+    let up = power_bound s.words.q c.loop.counter s.words.sizes.1 (omega (arith, s.whole, s.reach, s.words.sizes.3)) in
+    let most : c.loop.place * s.words.q ≤ c.loop.place * 8 = mul-le-mul_left c.loop.place s.words.sizes.1 in
+    omega (arith, up, most, c.loop.invariant.1)
+
+pub loop-init : goal.loop-init
+loop-init g c =
+    let s = c.args.sizes in
+    tail_none (sized_rule s (g.R.Rule.meaning c.args.self.now.rule)) (omega (arith, s.words.sizes.0)) (omega (arith, s.reach)) s.k s.some c.args.code
+
+pub loop-preserved : goal.loop-preserved
+loop-preserved g c =
+    let s = c.args.sizes in
+    tail_more (sized_rule s (g.R.Rule.meaning c.args.self.now.rule)) (omega (arith, s.words.sizes.0)) (omega (arith, s.reach)) s.k s.some
+    c.args.code c.loop.counter c.loop.front c.loop.place c.loop.next c.last_letter.result s.words.sizes.0 c.loop-test.true c.last_letter.type_inv c.last_letter.ensures c.loop.invariant
+
+pub returns : goal.returns
+returns g c =
+    let s = c.args.sizes in
+    tail_all (sized_rule s (g.R.Rule.meaning c.args.self.now.rule)) (omega (arith, s.words.sizes.0)) (omega (arith, s.reach)) s.k s.some
+    c.args.code c.loop.counter c.loop.front c.loop.place c.loop.next (omega arith) c.loop.invariant
