@@ -1,5 +1,5 @@
 // The crossings of all words of m - 1 letters.
-ghost use Rattle.std.specs.Prelude.{◌≡◌, ◌-◌, ◌^◌, ◌<◌, map, length, slice_index_or};
+ghost use Rattle.std.specs.Prelude.{◌≡◌, ◌-◌, ◌/◌, ◌^◌, ◌<◌, map, length, slice_index_or};
 ghost use Rattle.automaton.specs.Words.{word};
 ghost use Rattle.charge.specs.Groups.{minus};
 ghost use Rattle.criterion.specs.Search.{padding, J, crossings};
@@ -14,11 +14,11 @@ pub(crate) fn head_count<C: Charge, L: Label<C>>(label: &L) -> usize
     label.q().pow((label.m() - 1) as u32)
 }
 
-// The opposite of the crossing of the word of m - 1 letters with code v: the sum of the labels of the word's fronts,
-// which, padded with zeros, have the codes of v without its last letters.
-fn fronts_sum<C: Charge, L: Label<C>>(label: &L, v: usize) -> C
-    requires { v < (L.labels C.kind label.now).q ^ ((L.labels C.kind label.now).k - 1) }
-    ensures { C.kind.group.neg (C.kind.means result) ≡ J C.kind padding (L.labels C.kind label.now) (word (L.labels C.kind label.now).q ((L.labels C.kind label.now).k - 1) v) }
+// The sum of the labels of a word's fronts, of which the crossing is the opposite: padded with zeros, these have the codes
+// of v without its last letters. Of the code of a word of m - 1 letters nothing is left then.
+fn fronts_sum<C: Charge, L: Label<C>>(label: &L, v: usize) -> (C, usize)
+    ensures left { result.1 ≡ v / (L.labels C.kind label.now).q ^ ((L.labels C.kind label.now).k - 1) }
+    ensures sum { v < (L.labels C.kind label.now).q ^ ((L.labels C.kind label.now).k - 1) → C.kind.group.neg (C.kind.means result.0) ≡ J C.kind padding (L.labels C.kind label.now) (word (L.labels C.kind label.now).q ((L.labels C.kind label.now).k - 1) v) }
 {
     let q = label.q();
     let mut front = v;
@@ -27,26 +27,15 @@ fn fronts_sum<C: Charge, L: Label<C>>(label: &L, v: usize) -> C
         sum = sum.plus(label.label(front));
         front /= q;
     }
-    sum
-}
-
-// The crossing of the word of m - 1 letters with code v.
-fn crossing_at<C: Charge, L: Label<C>>(label: &L, v: usize) -> C
-    requires { v < (L.labels C.kind label.now).q ^ ((L.labels C.kind label.now).k - 1) }
-    ensures { C.kind.means result ≡ J C.kind padding (L.labels C.kind label.now) (word (L.labels C.kind label.now).q ((L.labels C.kind label.now).k - 1) v) }
-{
-    fronts_sum(label, v).opposite()
+    (sum, front)
 }
 
 // The crossing of the word of m - 1 letters with this code, and zero past the last code.
 pub fn crossing<C: Charge, L: Label<C>>(label: &L, code: usize) -> C
     ensures { C.kind.means result ≡ slice_index_or (crossings C.kind padding (L.labels C.kind label.now)) code C.kind.group.zero }
 {
-    if code < head_count(label) {
-        crossing_at(label, code)
-    } else {
-        C::zero()
-    }
+    let (sum, left) = fronts_sum(label, code);
+    if left == 0 { sum.opposite() } else { C::zero() }
 }
 
 // The crossing of a word from that of its front, which is a zero and all its letters but the last.
@@ -64,7 +53,7 @@ pub(crate) fn fill_crossings<C: Charge, L: Label<C>>(label: &L, strip: &mut [C])
 {
     let q = label.q();
     let zeros = label.label(0);
-    strip[0] = crossing_at(label, 0);
+    strip[0] = crossing(label, 0);
     for v in 1..strip.len() {
         strip[v] = next_crossing(strip[v / q], zeros, label.label(v));
     }

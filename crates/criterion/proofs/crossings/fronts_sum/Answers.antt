@@ -1,4 +1,4 @@
-use Rattle.std.proofs.Common.{arith}
+use Rattle.std.proofs.Common.{◌≡◌, ◌-◌, ◌/◌, ◌^◌, ap, ◌∙◌, arith}
 use Rattle.criterion.proofs.Sizes.{some-letters}
 use Rattle.criterion.proofs.Fronts.{front_all, summed_more, summed_all}
 use Rattle.criterion.proofs.crossings.fronts_sum.Goals as goal
@@ -12,9 +12,15 @@ loop-preserved g c =
     summed_more K (g.L.Label.labels K c.args.label.now) c.args.v c.loop.counter c.loop.front c.q-q.result
     c.loop.sum c.label.result c.plus-sum.result c.loop.invariant c.q-q.ensures c.label.ensures c.plus-sum.ensures
 
-pub returns : goal.returns
-returns g c =
+pub returns-clause-left : goal.returns-clause-left
+returns-clause-left g c =
+    let d = g.L.Label.labels g.C.Charge.kind c.args.label.now in
+    let all : c.loop.counter ≡ d.k - 1 = omega arith in
+    c.loop.invariant.0 ∙ ap (λ n. c.args.v / d.q ^ n) all
+
+pub returns-clause-sum : goal.returns-clause-sum
+returns-clause-sum g c =
     let K = g.C.Charge.kind in
     let d = g.L.Label.labels K c.args.label.now in
-    summed_all K d c.args.v c.loop.counter c.loop.front c.loop.sum c.loop.invariant
-    (omega arith) (some-letters d (g.L.Label.lawful K c.args.label.now)) c.requires
+    λ below. summed_all K d c.args.v c.loop.counter c.loop.front c.loop.sum c.loop.invariant
+    (omega arith) (some-letters d (g.L.Label.lawful K c.args.label.now)) below
