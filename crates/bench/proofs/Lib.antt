@@ -5,4 +5,4 @@ pub mod Rights
 pub mod Coded
 pub mod Fits
 pub mod Searches
-pub mod NextWords
+pub mod Nexts

@@ -37,5 +37,5 @@ abbrev pub next_word : RuleSizes → Local → ℕ → ℕ
 next_word s r c = code s.words.q (next_letters (sized_rule s r) s.k (word s.words.q (s.n + s.k - 1) c))
 
 -- the first n entries of a strip are the codes of the next letters of the first n words
-abbrev pub NextWords : RuleSizes → Local → ℕ → List ℕ → Type 0
-NextWords s r n strip = (c : ℕ) → c < n → slice_index strip c ≡ next_word s r c
+abbrev pub KnowsNext : RuleSizes → Local → ℕ → List ℕ → Type 0
+KnowsNext s r n strip = (c : ℕ) → c < n → slice_index strip c ≡ next_word s r c

@@ -4,10 +4,12 @@ ghost use Rattle.automaton.specs.Words.{code, window, cell, before};
 ghost use Rattle.criterion.specs.Search.{padding};
 ghost use Rattle.criterion.specs.Search.{crossings as crossings_of};
 ghost use Rattle.bench.specs.Labels.{rule_label_list};
+ghost use Rattle.bench.specs.Sized.{KnowsNext};
 
+use crate::next_words::NextWords;
 use crate::rule_label::RuleLabel;
 use crate::state::Holding;
-use automaton::{Density, Ring, Rule, Span};
+use automaton::{Density, Ring, Rule, Span, Words};
 use charge::Charge;
 use criterion::crossing;
 
@@ -34,16 +36,48 @@ impl<C: Charge, R: Rule, D: Density<C>> Holding<C, R, D> {
         }
     }
 
+    // What crosses into the sites of rings, for a number of sites and with room for the next letters of all words: these
+    // are found first where so many sites ask for more labels than there are words. What is left in the room is open.
+    pub fn crossings<'a>(
+        &'a self,
+        sites: usize,
+        room: &'a mut NextWords,
+    ) -> SiteCrossings<'a, C, R, D>
+        ensures { result.bench.now ≡ self.now }
+    {
+        let Words { m, count, .. } = self.sizes.words;
+        if sites < count / m {
+            return SiteCrossings {
+                bench: self,
+                nexts: &[],
+            };
+        }
+        SiteCrossings {
+            bench: self,
+            nexts: self.parts.next_words(self.sizes, room),
+        }
+    }
+}
+
+// What crosses into the sites of rings on a bench that holds. The next letters of the first words are known.
+#[derive(Drop)]
+pub struct SiteCrossings<'a, C: Charge, R: Rule, D: Density<C>> {
+    bench: &'a Holding<C, R, D>,
+    nexts: &'a [u16],
+    ghost known: { KnowsNext bench.now.sizes (R.meaning bench.now.parts.rule) (length nexts.now) nexts.now },
+}
+
+impl<C: Charge, R: Rule, D: Density<C>> SiteCrossings<'_, C, R, D> {
     // What crosses into site i of a ring in a step: the crossing of the m - 1 cells from l cells before cell i on, by
     // their code.
-    pub fn crossing_at(&self, ring: Ring<'_>, i: usize) -> C
-        ensures { C.kind.means result ≡ slice_index_or (crossings_of C.kind padding (rule_label_list C.kind.group (R.meaning self.now.parts.rule) (D.weights C.kind self.now.parts.density))) (code ring.entry.q (window ((R.meaning self.now.parts.rule).n + (D.weights C.kind self.now.parts.density).k - 2) (cell ring.entry.cells.now) (before (length ring.entry.cells.now) (R.meaning self.now.parts.rule).l i))) C.kind.group.zero }
+    pub fn at(&self, ring: Ring<'_>, i: usize) -> C
+        ensures { C.kind.means result ≡ slice_index_or (crossings_of C.kind padding (rule_label_list C.kind.group (R.meaning self.now.bench.now.parts.rule) (D.weights C.kind self.now.bench.now.parts.density))) (code ring.entry.q (window ((R.meaning self.now.bench.now.parts.rule).n + (D.weights C.kind self.now.bench.now.parts.density).k - 2) (cell ring.entry.cells.now) (before (length ring.entry.cells.now) (R.meaning self.now.bench.now.parts.rule).l i))) C.kind.group.zero }
     {
         let label = RuleLabel {
-            parts: &self.parts,
-            sizes: self.sizes,
-            nexts: &[],
+            parts: &self.bench.parts,
+            sizes: self.bench.sizes,
+            nexts: self.nexts,
         };
-        crossing(&label, ring.span_code(self.crossing_span(), i))
+        crossing(&label, ring.span_code(self.bench.crossing_span(), i))
     }
 }

@@ -13,6 +13,7 @@ ghost use Rattle.bench.specs.Answers.{breaks_mean, verdict_means, verdict_parts,
 ghost use Rattle.bench.specs.Laws.{VerdictRight, VerdictWhole};
 ghost use Rattle.bench.specs.Verdicts.{Ring, bench_checked, judge_found, judge_crossings, judging, broken, verdict_of};
 
+use crate::next_words::NextWords;
 use crate::rule_label::RuleLabel;
 use crate::sizes::RuleSizes;
 use crate::state::{Break, Breaking, Draft, Holding, Parts, Refused, Verdict};
@@ -20,7 +21,6 @@ use automaton::{Density, Rule, next_ring, total};
 use charge::Charge;
 use criterion::{Failure, MOST_SHOWN, examine};
 use fault::Fault;
-use fault::limits::MOST_WORDS;
 use std::marker::PhantomData;
 
 // What a draft is once it is judged.
@@ -92,13 +92,11 @@ impl<C: Charge, R: Rule, D: Density<C>> Draft<C, R, D> {
         ensures crossings { FrontMeans C.kind (judge_crossings C.kind (length crossings.old) (length ring.old) (R.meaning self.now.parts.rule) (D.weights C.kind self.now.parts.density)) crossings.old crossings.new }
         ensures ring { ring.new ≡ front (ring_written (judge_found C.kind (length crossings.old) (length ring.old) (R.meaning self.now.parts.rule) (D.weights C.kind self.now.parts.density))) ring.old }
     {
-        let mut strip = [0u16; MOST_WORDS as usize];
-        let nexts = &mut strip[..self.sizes.words.count];
-        self.parts.write_next_words(self.sizes, nexts);
+        let mut room = NextWords::new();
         let label = RuleLabel {
             parts: &self.parts,
             sizes: self.sizes,
-            nexts,
+            nexts: self.parts.next_words(self.sizes, &mut room),
         };
         examine(&label, crossings, ring)
     }

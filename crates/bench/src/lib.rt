@@ -12,7 +12,9 @@ mod state;
 mod two_label;
 
 pub use comparing::compare;
+pub use holding::SiteCrossings;
 pub use judging::Judged;
+pub use next_words::NextWords;
 pub use rule_label::RuleLabel;
 pub use state::{Break, Breaking, Draft, Holding, Parts, Refused, Verdict};
 pub use two_label::TwoLabel;

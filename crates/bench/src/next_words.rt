@@ -1,10 +1,28 @@
 // The next letters of words, by codes.
-ghost use Rattle.std.specs.Prelude.{◌≡◌, ◌+◌, ◌-◌, ◌/◌, ◌%◌, ◌^◌, ◌<◌, ◌*◌, max, length, slice_index};
-ghost use Rattle.bench.specs.Sized.{sized_rule, next_word, NextWords};
+ghost use Rattle.std.specs.Prelude.{◌≡◌, ◌+◌, ◌-◌, ◌/◌, ◌%◌, ◌^◌, ◌<◌, ◌*◌, max, length, replicate, slice_index};
+ghost use Rattle.fault.specs.Limits.{most_words};
+ghost use Rattle.bench.specs.Sized.{sized_rule, next_word, KnowsNext};
 
 use crate::sizes::RuleSizes;
 use crate::state::Parts;
 use automaton::Rule;
+use fault::limits::MOST_WORDS;
+
+// Room for the next letters of all words of a label: an array, since nothing here is on the heap.
+#[derive(Drop)]
+pub struct NextWords {
+    pub(crate) codes: [u16; MOST_WORDS as usize],
+}
+
+impl NextWords {
+    pub fn new() -> NextWords
+        ensures { result.codes ≡ replicate most_words 0 }
+    {
+        NextWords {
+            codes: [0; MOST_WORDS as usize],
+        }
+    }
+}
 
 impl<R: Rule, D> Parts<R, D> {
     // The answer for the last n letters of a word.
@@ -36,9 +54,9 @@ impl<R: Rule, D> Parts<R, D> {
     fn extend(&self, sizes: RuleSizes, head: usize, strip: &mut [u16])
         requires rule { sized_rule sizes (R.meaning self.now.rule) ≡ R.meaning self.now.rule }
         requires word { (length strip.old ≡ sizes.words.count) × (head * sizes.words.q < length strip.old) }
-        requires known { NextWords sizes (R.meaning self.now.rule) (max 1 (head * sizes.words.q)) strip.old }
+        requires known { KnowsNext sizes (R.meaning self.now.rule) (max 1 (head * sizes.words.q)) strip.old }
         ensures len { length strip.new ≡ length strip.old }
-        ensures known { NextWords sizes (R.meaning self.now.rule) ((head + 1) * sizes.words.q) strip.new }
+        ensures known { KnowsNext sizes (R.meaning self.now.rule) ((head + 1) * sizes.words.q) strip.new }
     {
         let q = sizes.words.q;
         let first = head * q;
@@ -51,15 +69,25 @@ impl<R: Rule, D> Parts<R, D> {
     }
 
     // Fills a strip with the next words of all words.
-    pub(crate) fn write_next_words(&self, sizes: RuleSizes, strip: &mut [u16])
+    fn write_next_words(&self, sizes: RuleSizes, strip: &mut [u16])
         requires rule { sized_rule sizes (R.meaning self.now.rule) ≡ R.meaning self.now.rule }
         requires room { length strip.old ≡ sizes.words.count }
         ensures len { length strip.new ≡ length strip.old }
-        ensures known { NextWords sizes (R.meaning self.now.rule) (length strip.new) strip.new }
+        ensures known { KnowsNext sizes (R.meaning self.now.rule) (length strip.new) strip.new }
     {
         strip[0] = self.next_code(sizes, 0) as u16;
         for head in 0..strip.len() / sizes.words.q {
             self.extend(sizes, head, strip);
         }
+    }
+
+    // The next words of all words, in the room for them.
+    pub(crate) fn next_words<'a>(&self, sizes: RuleSizes, room: &'a mut NextWords) -> &'a [u16]
+        requires { sized_rule sizes (R.meaning self.now.rule) ≡ R.meaning self.now.rule }
+        ensures { KnowsNext sizes (R.meaning self.now.rule) (length result.now) result.now }
+    {
+        let strip = &mut room.codes[..sizes.words.count];
+        self.write_next_words(sizes, strip);
+        strip
     }
 }

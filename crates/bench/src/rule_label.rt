@@ -1,7 +1,7 @@
 // The label of a rule under a density.
 ghost use Rattle.std.specs.Prelude.{◌≡◌, ◌+◌, ◌-◌, ◌/◌, ◌%◌, ◌^◌, ◌<◌, length, slice_index};
 ghost use Rattle.bench.specs.Labels.{rule_label, rule_label_list};
-ghost use Rattle.bench.specs.Sized.{sized_rule, sized_density, label_weighed, next_word, NextWords};
+ghost use Rattle.bench.specs.Sized.{sized_rule, sized_density, label_weighed, next_word, KnowsNext};
 
 use crate::sizes::RuleSizes;
 use crate::state::Parts;
@@ -16,7 +16,7 @@ pub struct RuleLabel<'a, R: Rule, D> {
     pub(crate) parts: &'a Parts<R, D>,
     pub(crate) sizes: RuleSizes,
     pub(crate) nexts: &'a [u16],
-    ghost known: { NextWords sizes (R.meaning parts.now.rule) (length nexts.now) nexts.now },
+    ghost known: { KnowsNext sizes (R.meaning parts.now.rule) (length nexts.now) nexts.now },
 }
 
 impl<C: Charge, R: Rule, D: Density<C>> Label<C> for RuleLabel<'_, R, D> {

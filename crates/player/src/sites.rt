@@ -4,7 +4,7 @@ ghost use Rattle.charge.specs.Groups.{Kind};
 ghost use Rattle.player.specs.Calls.{charges, crossing_at};
 
 use automaton::{Density, Ring, Rule};
-use bench::Holding;
+use bench::{Holding, SiteCrossings};
 use charge::Charge;
 
 // A charge for each site of a ring.
@@ -42,13 +42,6 @@ impl<C: Charge, R: Rule, D: Density<C>> Sites<'_, '_, C, R, D> {
     {
         self.ring.site_charge(self.bench.density(), i)
     }
-
-    // What crosses into site i in a step.
-    fn crossing(&self, i: usize) -> C
-        ensures { C.kind.means result ≡ crossing_at C.kind (R.meaning self.now.bench.now.parts.rule) (D.weights C.kind self.now.bench.now.parts.density) self.now.ring.cells.now i }
-    {
-        self.bench.crossing_at(self.ring, i)
-    }
 }
 
 // The charge of each site.
@@ -79,16 +72,18 @@ impl<C: Charge, R: Rule, D: Density<C>> SiteCharges<C> for Opposites<'_, Sites<'
     }
 }
 
-// What crosses into each site in a step.
+// What crosses into each site of a ring in a step.
 #[derive(Drop)]
-pub(crate) struct Crossings<'a, S> {
-    pub sites: &'a S,
+pub(crate) struct Crossings<'b, 'r, C: Charge, R: Rule, D: Density<C>> {
+    pub crossings: SiteCrossings<'b, C, R, D>,
+    pub ring: Ring<'r>,
+    pub ghost alphabet: { ring.q ≡ (R.meaning crossings.bench.now.parts.rule).q },
 }
 
-impl<C: Charge, R: Rule, D: Density<C>> SiteCharges<C> for Crossings<'_, Sites<'_, '_, C, R, D>> {
-    ghost charges = { λ K s i. crossing_at K (R.meaning s.sites.now.bench.now.parts.rule) (D.weights K s.sites.now.bench.now.parts.density) s.sites.now.ring.cells.now i };
+impl<C: Charge, R: Rule, D: Density<C>> SiteCharges<C> for Crossings<'_, '_, C, R, D> {
+    ghost charges = { λ K s i. crossing_at K (R.meaning s.crossings.bench.now.parts.rule) (D.weights K s.crossings.bench.now.parts.density) s.ring.cells.now i };
 
     fn charge_at(&self, i: usize) -> C {
-        self.sites.crossing(i)
+        self.crossings.at(self.ring, i)
     }
 }

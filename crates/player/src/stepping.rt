@@ -12,6 +12,7 @@ use crate::ledger::book_front;
 use crate::playing::Playing;
 use crate::sites::Crossings;
 use automaton::{Density, Rule, next_ring};
+use bench::NextWords;
 use charge::Charge;
 use fault::{Fault, Stop};
 
@@ -46,11 +47,13 @@ impl<C: Charge, R: Rule, D: Density<C>> Playing<C, R, D> {
         ensures spare { spare.new ≡ front (take self.now.len cells.old) spare.old }
         ensures crossed { FrontMeans C.kind (booked C.kind.group (crossing_at C.kind (R.meaning self.now.bench.parts.rule) (D.weights C.kind self.now.bench.parts.density) (take self.now.len cells.old)) (take self.now.len (map C.kind.means crossed.old))) crossed.old crossed.new }
     {
+        let mut room = NextWords::new();
         book_front(
             self.len,
             crossed,
             &Crossings {
-                sites: &self.sites(cells),
+                crossings: self.bench.crossings(self.len, &mut room),
+                ring: self.sites(cells).ring,
             },
         );
         self.advance(cells, spare)

@@ -1,6 +1,6 @@
 use Rattle.std.proofs.Common.{ℕ, ◌+◌, ◌*◌, ◌∙◌, arith, length-set}
 use Rattle.bench.specs.Sized.{next_word}
-use Rattle.bench.proofs.NextWords.{next-small, extended-within, extended, known-more}
+use Rattle.bench.proofs.Nexts.{next-small, extended-within, extended, known-more}
 use Rattle.bench.proofs.state.Parts.extend.Goals as goal
 
 pub overflow_cast-strip-in-loop-last : goal.overflow_cast-strip-in-loop-last

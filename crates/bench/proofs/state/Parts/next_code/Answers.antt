@@ -1,7 +1,7 @@
 use Rattle.std.proofs.Common.{◌≤◌, ◌*◌, arith, mul-le-mul_left, mul-le-mul_right}
 use Rattle.fault.proofs.Powers.{power_bound}
 use Rattle.bench.specs.Sized.{sized_rule}
-use Rattle.bench.proofs.NextWords.{tail_none, tail_more, tail_all}
+use Rattle.bench.proofs.Nexts.{tail_none, tail_more, tail_all}
 use Rattle.bench.proofs.state.Parts.next_code.Goals as goal
 
 pub overflow_mul-next : goal.overflow_mul-next

@@ -1,5 +1,5 @@
 use Rattle.bench.specs.Sized.{sized_rule}
-use Rattle.bench.proofs.NextWords.{Tail}
+use Rattle.bench.proofs.Nexts.{Tail}
 use Rattle.bench.proofs.state.Parts.next_code.Given as goal
 
 abbrev pub invariant-loop : goal.invariant-loop

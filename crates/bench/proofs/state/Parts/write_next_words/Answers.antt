@@ -2,7 +2,7 @@ use Rattle.std.proofs.Common.{◌≡◌, ◌+◌, ◌*◌, ◌/◌, ◌<◌, ◌
 use Rattle.std.proofs.lemmas.Grind.{get_or-set_at}
 use Rattle.automaton.proofs.Codes.{power-some}
 use Rattle.bench.specs.Sized.{next_word}
-use Rattle.bench.proofs.NextWords.{next-small, heads_count}
+use Rattle.bench.proofs.Nexts.{next-small, heads_count}
 use Rattle.bench.proofs.state.Parts.write_next_words.Goals as goal
 
 pub overflow_cast-strip : goal.overflow_cast-strip

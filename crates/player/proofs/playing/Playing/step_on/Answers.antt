@@ -17,7 +17,8 @@ pub returns-clause-crossed : goal.returns-clause-crossed
 returns-clause-crossed g c =
     let K = g.C.Charge.kind in
     let a = c.args in
-    let made = c.sites.ensures in
+    let ring = c.sites.ensures.ring in
+    let bench = c.crossings.ensures in
     let at : Local × Weights K.group.Carrier × List ℕ → Type 0 = λ x.
     FrontMeans K (booked K.group (crossing_at K x.0 x.1 x.2) (take a.self.now.len (map K.means a.crossed.now))) a.crossed.now c.book_front.new.strip in
-    subst at (λ j. (g.R.Rule.meaning (made.bench j).parts.rule, g.D.Density.weights K (made.bench j).parts.density, made.ring j)) c.book_front.ensures
+    subst at (λ j. (g.R.Rule.meaning (bench j).parts.rule, g.D.Density.weights K (bench j).parts.density, ring j)) c.book_front.ensures

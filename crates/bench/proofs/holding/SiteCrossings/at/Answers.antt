@@ -2,12 +2,12 @@ use Rattle.std.proofs.Common.{◌≡◌, ℕ, ◌+◌, ◌-◌, length, slice_in
 use Rattle.automaton.specs.Words.{code, window, cell, before}
 use Rattle.criterion.specs.Search.{padding, crossings}
 use Rattle.bench.proofs.Searches.{rule_list-same}
-use Rattle.bench.proofs.state.Holding.crossing_at.Goals as goal
+use Rattle.bench.proofs.holding.SiteCrossings.at.Goals as goal
 
 pub returns : goal.returns
 returns g c =
     let K = g.C.Charge.kind in
-    let bench = c.args.self.now in
+    let bench = c.args.self.now.bench.now in
     let r = g.R.Rule.meaning bench.parts.rule in
     let d = g.D.Density.weights K bench.parts.density in
     let ring = c.args.ring in

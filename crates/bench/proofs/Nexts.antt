@@ -15,7 +15,7 @@ use Rattle.automaton.proofs.Steps.{letters_any}
 use lib.Arith.{digits_lt, digits_div, digits_mod, mod-mul}
 use Rattle.bench.specs.declared.sizes.RuleSizes.{RuleSizes}
 use Rattle.bench.specs.Labels.{next_letters}
-use Rattle.bench.specs.Sized.{sized_rule, next_word, NextWords}
+use Rattle.bench.specs.Sized.{sized_rule, next_word, KnowsNext}
 
 -- a word without its first letter, by codes
 code-drop : (q : ℕ) → 0 < q → (p : ℕ) (w : List ℕ) → Word q (suc p) w → code q (drop 1 w) ≡ code q w % q ^ p
@@ -186,7 +186,7 @@ module _ (s : RuleSizes) (r : Local) (lawful : Lawful r) (same : sized_rule s r 
       let few : s.words.q ^ s.k ≤ s.words.q ^ s.words.m = pow-le-pow_right some (omega (arith, s.whole, s.reach)) in
       omega (arith, nexts-below (sized_rule s r) some (omega (arith, s.reach)) s.k s.some sized_lawful.letters c, few, s.words.sizes.4)
 
-  pub extended : (strip : List ℕ) (head last a : ℕ) → NextWords s r (max 1 (head * s.words.q)) strip → last < s.words.q →
+  pub extended : (strip : List ℕ) (head last a : ℕ) → KnowsNext s r (max 1 (head * s.words.q)) strip → last < s.words.q →
       a ≡ get_or r.answers (head * s.words.q % s.windows + last) 0 → get_or strip head 0 % s.kept * s.words.q + a ≡ next_word s r (head * s.words.q + last)
   extended strip head last a known below is =
       let q = s.words.q in
