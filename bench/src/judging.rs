@@ -68,6 +68,7 @@ impl<'a, C: Charge> Bench<'a, C> {
     }
 
     /// The next letters of a word, from the last on.
+    #[cold]
     fn next_word(&self, code: usize) -> usize {
         let (mut front, mut place, mut next) = (code, 1, 0);
         for _ in 0..self.k {
@@ -84,21 +85,31 @@ impl<'a, C: Charge> Bench<'a, C> {
         self.charge(next).minus(now)
     }
 
-    fn label(&self, code: usize) -> C {
-        self.label_by(self.next_word(code), code)
+    /// The label of a word, of which the next letters stand in a table of the first words or are asked for.
+    fn label(&self, nexts: &[u16], code: usize) -> C {
+        let next = match nexts.get(code) {
+            Some(next) => *next as usize,
+            None => self.next_word(code),
+        };
+        self.label_by(next, code)
     }
 
     /// The crossing of the word of m - 1 letters with a code, by the labels of its fronts.
-    pub fn crossing(&self, code: usize) -> C {
+    pub fn crossing(&self, nexts: &[u16], code: usize) -> C {
         let (mut front, mut sum) = (code, C::ZERO);
         for _ in 0..self.m() - 1 {
-            sum = sum.plus(self.label(front));
+            sum = sum.plus(self.label(nexts, front));
             front /= self.q;
         }
         sum.opposite()
     }
 
-    fn write_next_words(&self, nexts: &mut [u16]) {
+    /// How many words the label has.
+    pub fn count(&self) -> usize {
+        self.heads * self.q
+    }
+
+    pub fn write_next_words(&self, nexts: &mut [u16]) {
         nexts[0] = self.next_word(0) as u16;
         for head in 0..self.heads {
             let first = head * self.q;
@@ -113,11 +124,11 @@ impl<'a, C: Charge> Bench<'a, C> {
     /// Fills the crossings and finds the first word that fails.
     fn search(&self, crossings: &mut [C]) -> Option<usize> {
         let mut strip = [0u16; MOST_WORDS];
-        let nexts = &mut strip[..self.heads * self.q];
+        let nexts = &mut strip[..self.count()];
         self.write_next_words(nexts);
         let label = |code: usize| self.label_by(nexts[code] as usize, code);
         let zeros = label(0);
-        crossings[0] = self.crossing(0);
+        crossings[0] = self.crossing(nexts, 0);
         for v in 1..self.heads {
             crossings[v] = crossings[v / self.q].plus(zeros.minus(label(v)));
         }
@@ -145,7 +156,7 @@ impl<'a, C: Charge> Bench<'a, C> {
 
     fn label_total(&self, ring: &[u8]) -> C {
         (0..ring.len()).fold(C::ZERO, |sum, i| {
-            sum.plus(self.label(self.ring_code(ring, i, self.m())))
+            sum.plus(self.label(&[], self.ring_code(ring, i, self.m())))
         })
     }
 
@@ -211,7 +222,7 @@ impl<'a, C: Charge> Bench<'a, C> {
             let fronts = (0..self.m() - 1).map(|j| label(v / power(self.m() - 2 - j)));
             crossings[v] = fronts.fold(C::ZERO, Charge::plus).opposite();
         }
-        (0..self.heads * self.q).find(|&code| {
+        (0..self.count()).find(|&code| {
             let crosses = crossings[code / self.q].minus(crossings[code % self.heads]);
             !label(code).same(crosses)
         })
