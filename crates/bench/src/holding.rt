@@ -1,5 +1,5 @@
 // What a bench that holds is asked by a player.
-ghost use Rattle.std.specs.Prelude.{◌≡◌, ◌+◌, ◌-◌, length, slice_index_or};
+ghost use Rattle.std.specs.Prelude.{◌≡◌, ◌+◌, ◌-◌, ◌≤◌, length, slice_index_or};
 ghost use Rattle.automaton.specs.Words.{code, window, cell, before};
 ghost use Rattle.criterion.specs.Search.{padding};
 ghost use Rattle.criterion.specs.Search.{crossings as crossings_of};
@@ -64,6 +64,7 @@ impl<C: Charge, R: Rule, D: Density<C>> Holding<C, R, D> {
 pub struct SiteCrossings<'a, C: Charge, R: Rule, D: Density<C>> {
     bench: &'a Holding<C, R, D>,
     nexts: &'a [u16],
+    ghost words: { length nexts.now ≤ bench.now.sizes.words.count },
     ghost known: { KnowsNext bench.now.sizes (R.meaning bench.now.parts.rule) (length nexts.now) nexts.now },
 }
 

@@ -84,7 +84,8 @@ impl<R: Rule, D> Parts<R, D> {
     // The next words of all words, in the room for them.
     pub(crate) fn next_words<'a>(&self, sizes: RuleSizes, room: &'a mut NextWords) -> &'a [u16]
         requires { sized_rule sizes (R.meaning self.now.rule) ≡ R.meaning self.now.rule }
-        ensures { KnowsNext sizes (R.meaning self.now.rule) (length result.now) result.now }
+        ensures words { length result.now ≡ sizes.words.count }
+        ensures known { KnowsNext sizes (R.meaning self.now.rule) (length result.now) result.now }
     {
         let strip = &mut room.codes[..sizes.words.count];
         self.write_next_words(sizes, strip);

@@ -1,5 +1,5 @@
 // The label of a rule under a density.
-ghost use Rattle.std.specs.Prelude.{◌≡◌, ◌+◌, ◌-◌, ◌/◌, ◌%◌, ◌^◌, ◌<◌, length, slice_index};
+ghost use Rattle.std.specs.Prelude.{◌≡◌, ◌+◌, ◌-◌, ◌/◌, ◌%◌, ◌^◌, ◌<◌, ◌≤◌, length, slice_index, MatchOption};
 ghost use Rattle.bench.specs.Labels.{rule_label, rule_label_list};
 ghost use Rattle.bench.specs.Sized.{sized_rule, sized_density, label_weighed, next_word, KnowsNext};
 
@@ -16,6 +16,7 @@ pub struct RuleLabel<'a, R: Rule, D> {
     pub(crate) parts: &'a Parts<R, D>,
     pub(crate) sizes: RuleSizes,
     pub(crate) nexts: &'a [u16],
+    ghost words: { length nexts.now ≤ sizes.words.count },
     ghost known: { KnowsNext sizes (R.meaning parts.now.rule) (length nexts.now) nexts.now },
 }
 
@@ -33,23 +34,24 @@ impl<C: Charge, R: Rule, D: Density<C>> Label<C> for RuleLabel<'_, R, D> {
     }
 
     fn label(&self, code: usize) -> C {
-        if code >= self.sizes.words.count {
+        let Some(next) = self.next_word(code) else {
             return C::zero();
-        }
-        let later = self.parts.density.charge(self.next_word(code));
+        };
+        let later = self.parts.density.charge(next);
         let now = self.parts.density.charge(self.sizes.weighed.code(code));
         difference(later, now)
     }
 }
 
 impl<R: Rule, D> RuleLabel<'_, R, D> {
-    // The code of the next letters of a word.
-    fn next_word(&self, code: usize) -> usize
-        ensures { result ≡ next_word self.now.sizes (R.meaning self.now.parts.now.rule) code }
+    // The code of the next letters of the word of a code, if there is one. One test is enough where they are known.
+    fn next_word(&self, code: usize) -> Option<usize>
+        ensures { MatchOption result (self.now.sizes.words.count ≤ code) (λ next. (code < self.now.sizes.words.count) × (next ≡ next_word self.now.sizes (R.meaning self.now.parts.now.rule) code)) }
     {
         match self.nexts.get(code) {
-            Some(next) => *next as usize,
-            None => self.parts.next_code(self.sizes, code),
+            Some(next) => Some(*next as usize),
+            None if code < self.sizes.words.count => Some(self.parts.next_code(self.sizes, code)),
+            None => None,
         }
     }
 }

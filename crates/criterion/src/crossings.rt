@@ -16,6 +16,7 @@ pub(crate) fn head_count<C: Charge, L: Label<C>>(label: &L) -> usize
 
 // The sum of the labels of a word's fronts, of which the crossing is the opposite: padded with zeros, these have the codes
 // of v without its last letters. Of the code of a word of m - 1 letters nothing is left then.
+#[inline(always)]
 fn fronts_sum<C: Charge, L: Label<C>>(label: &L, v: usize) -> (C, usize)
     ensures left { result.1 ≡ v / (L.labels C.kind label.now).q ^ ((L.labels C.kind label.now).k - 1) }
     ensures sum { v < (L.labels C.kind label.now).q ^ ((L.labels C.kind label.now).k - 1) → C.kind.group.neg (C.kind.means result.0) ≡ J C.kind padding (L.labels C.kind label.now) (word (L.labels C.kind label.now).q ((L.labels C.kind label.now).k - 1) v) }
@@ -30,7 +31,9 @@ fn fronts_sum<C: Charge, L: Label<C>>(label: &L, v: usize) -> (C, usize)
     (sum, front)
 }
 
-// The crossing of the word of m - 1 letters with this code, and zero past the last code.
+// The crossing of the word of m - 1 letters with this code, and zero past the last code. Inlined, like the sum, since it is
+// asked for site by site, and what the label keeps is then loaded once.
+#[inline(always)]
 pub fn crossing<C: Charge, L: Label<C>>(label: &L, code: usize) -> C
     ensures { C.kind.means result ≡ slice_index_or (crossings C.kind padding (L.labels C.kind label.now)) code C.kind.group.zero }
 {
