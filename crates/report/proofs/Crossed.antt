@@ -23,7 +23,8 @@ use Rattle.bench.specs.Answers.{found_said}
 use Rattle.bench.specs.Labels.{rule_label_list}
 use Rattle.bench.specs.Verdicts.{broken}
 use Rattle.report.specs.declared.line.Line.{Line}
-use Rattle.report.specs.Finds.{JudgeFinds, preset_rule, preset_density, preset_found, answer_good}
+use Rattle.preset_bench.specs.Finds.{JudgeFinds, preset_rule, preset_density, preset_found}
+use Rattle.report.specs.Finds.{answer_good}
 use Rattle.report.specs.Lines.{LineIs}
 use Rattle.report.specs.Reports.{ToldCrossings, crossing_shape}
 use Rattle.report.specs.Texts.{Shape, row_text, rows_text}
