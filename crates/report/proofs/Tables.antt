@@ -1,6 +1,6 @@
 -- One row more. Assumes nothing.
-use Rattle.std.proofs.Common.{◌≡◌, ℕ, suc, ◌+◌, ◌<◌, List, [], ◌∷◌, ◌++◌, map, length, get_or, take, sym, ap, ◌∙◌, append_assoc, append-nil, add-zero, zero-add, arith}
-use Rattle.std.proofs.lemmas.List.{take_more, length-take-le, map_push}
+use Rattle.std.proofs.Common.{◌≡◌, ℕ, suc, ◌+◌, ◌<◌, List, [], ◌∷◌, ◌++◌, length, get_or, take, sym, ap, ◌∙◌, append_assoc, append-nil, add-zero, zero-add, arith}
+use Rattle.std.proofs.lemmas.List.{take_more, length-take-le}
 use Rattle.report.specs.Texts.{rows_text}
 
 module _ {X : Type 0} (row : ℕ → X → List ℕ) where
