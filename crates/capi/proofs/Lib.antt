@@ -1,0 +1,3 @@
+pub mod Judged
+pub mod Loads
+pub mod Strips

@@ -3,7 +3,11 @@
 #![tactic(auto)]
 
 mod answers;
+mod judge_charges;
+mod judge_kinds;
+mod judge_preset;
 mod read_preset;
 
 pub use answers::{JudgeAnswer, ReadAnswer, ScriptAnswer};
+pub use judge_preset::ringbench_judge;
 pub use read_preset::ringbench_read;

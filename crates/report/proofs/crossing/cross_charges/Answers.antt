@@ -4,7 +4,8 @@ use Rattle.charge.specs.declared.kind.ChargeKind.{ChargeKind}
 use Rattle.report.specs.Texts.{Shape, shape_of}
 use Rattle.report.specs.Reports.{crossing_shape}
 use Rattle.report.proofs.Lined.{crossings-page}
-use Rattle.report.proofs.Crossed.{page-told, refusal-told, refused_is, crossings_few}
+use Rattle.preset_bench.proofs.Counts.{crossings_few}
+use Rattle.report.proofs.Crossed.{page-told, refusal-told, refused_is}
 use Rattle.report.proofs.crossing.cross_charges.Goals as goal
 
 pub returns-in_err-found : goal.returns-in_err-found
