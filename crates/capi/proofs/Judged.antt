@@ -3,7 +3,7 @@ use Rattle.std.proofs.Common.{◌≡◌, ℕ, ◌+◌, ◌-◌, ◌*◌, ◌^◌
 use Rattle.std.proofs.lemmas.Bool.{le-leb, lt-leb, leb-false}
 use Rattle.fault.specs.declared.Fault.{Fault}
 use Rattle.fault.specs.declared.Stop.TheVariants.{ShortStrip}
-use Rattle.fault.specs.Answers.{and_then, plainly, front}
+use Rattle.fault.specs.Answers.{and_then, front}
 use Rattle.fault.specs.Limits.{most_words}
 use Rattle.fault.specs.Refusals.{Refusal, refused_at}
 use Rattle.charge.specs.Groups.{Kind}
@@ -16,11 +16,10 @@ use Rattle.preset.specs.declared.header.Header.{Header}
 use Rattle.bench.specs.declared.state.Break.{Break}
 use Rattle.bench.specs.Labels.{rule_label_list}
 use Rattle.bench.specs.Verdicts.{bench_checked}
-use Rattle.preset_bench.specs.Finds.{JudgeFinds, preset_rule, preset_density, preset_checked, preset_found, sent_found}
+use Rattle.preset_bench.specs.Finds.{JudgeFinds, preset_rule, preset_density, preset_checked, preset_found}
 use Rattle.preset_bench.proofs.Counts.{counted, crossings_few}
 use Rattle.capi.specs.declared.answers.JudgeAnswer.{JudgeAnswer}
-use Rattle.capi.specs.Answers.{judge_answer}
-use Rattle.capi.specs.Judging.{JudgedOn}
+use Rattle.capi.specs.Judging.{JudgedOn, told_of}
 
 -- what a strip of a or of m items has room for is the same up to m
 le-min : (n a m : ℕ) → n ≤ m → nat_le n (min a m) ≡ nat_le n a
@@ -41,14 +40,14 @@ module _ {C : Type 0} (K : Kind C) (h : Header) (letters : List ℕ) (charges : 
         cond (b && nat_le (2 * label.k - 1) cells) (Ok (failure K padding label)) (Err (refused_at ShortStrip 0)))))
       (le-min (h.q ^ (h.n + h.k - 1 - 1)) room most_words (crossings_few h sized))
 
-  pub judged-on : (S : Sending C) (entries old new : List Entry) (strip ring : List ℕ) (work now : List C) (verdict : Result (Option (Break C)) Fault) (count : ℕ) (r : JudgeAnswer)
+  pub judged-on : (S : Sending C) (entries old new : List Entry) (strip ring : List ℕ) (work now : List C) (verdict : Result (Option (Break C)) Fault) (count : ℕ) (answer : JudgeAnswer)
       → map S.entry charges ≡ entries → length work ≡ min (length old) most_words
       → JudgeFinds K (preset_rule h letters) (preset_density K h charges) (preset_found K (length work) (length strip) h letters charges) work now strip ring verdict
       → MatchResult verdict (λ _. count ≡ h.q ^ (h.n + h.k - 1 - 1)) (λ _. count ≡ 0)
       → new ≡ front (map S.entry (take count now)) old
-      → r ≡ judge_answer (plainly (sent_found S verdict))
-      → JudgedOn K S h letters entries old new strip ring r
-  judged-on S entries old new strip ring work now verdict count r sent size finds many written told =
+      → answer ≡ told_of S verdict
+      → JudgedOn K S h letters entries old new strip ring answer
+  judged-on S entries old new strip ring work now verdict count answer sent size finds many written told =
       let r' = preset_rule h letters in
       let d = preset_density K h charges in
       let same : preset_found K (length work) (length strip) h letters charges ≡ preset_found K (length old) (length strip) h letters charges =
@@ -59,7 +58,8 @@ module _ {C : Type 0} (K : Kind C) (h : Header) (letters : List ℕ) (charges : 
         charges = charges;
         sent = sent;
         verdict = verdict;
-        told = record { said = is.said; right = is.right; told = told };
+        verdict_is = record { said = is.said; right = is.right };
+        told = told;
         crossed = take count now;
         meant = ap (λ n. map K.means (take n now)) (counted K (rule_label_list K.group r' d) (total K.group d) (λ c. total K.group d (next r' c)) (preset_found K (length old) (length strip) h letters charges) verdict count is.said many) ∙ is.crossed.0;
         written = written;

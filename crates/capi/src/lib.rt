@@ -6,8 +6,11 @@ mod answers;
 mod judge_charges;
 mod judge_kinds;
 mod judge_preset;
+mod play_script;
 mod read_preset;
+mod script;
 
 pub use answers::{JudgeAnswer, ReadAnswer, ScriptAnswer};
 pub use judge_preset::ringbench_judge;
 pub use read_preset::ringbench_read;
+pub use script::ScriptCall;
