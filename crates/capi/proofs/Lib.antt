@@ -1,3 +1,4 @@
 pub mod Judged
 pub mod Loads
+pub mod Sessions
 pub mod Strips

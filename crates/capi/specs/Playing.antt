@@ -29,15 +29,17 @@ use Rattle.capi.specs.Judging.{VerdictIs, told_of}
 use Rattle.capi.specs.Scripts.{Asking, clean, session}
 
 module _ {C : Type 0} (K : Kind C) (S : Sending C) (r : Local) (d : Weights K.group.Carrier) (handed : Strips K.group.Carrier) (script : List Asking) where
-  -- A script played: some answers that are the session's stand at the front of the strip of answers, the cells are the
-  -- session's, and its log has no gaps and is true on every line.
-  pub record Performs (cells : List ℕ) (old new : List ScriptAnswer) : Type 0 where
+  -- some answers that are the session's stand at the front of the strip of answers, and the cells are the session's
+  pub record Answered (cells : List ℕ) (old new : List ScriptAnswer) : Type 0 where
     pub given : List (Option (Answer C))
     pub said : map (option_map (answered K)) given ≡ (session K r d handed script).said
     pub answers : new ≡ front (map (script_answer S) given) old
     pub cells_left : cells ≡ (session K r d handed script).strips.cells
-    pub gapless : WithoutGaps K r d (session K r d handed script).log
-    pub true_lines : OnEveryLine (LineTrue K r d) (session K r d handed script).log
+
+  -- and the session's log has no gaps and is true on every line
+  abbrev pub Performs : List ℕ → List ScriptAnswer → List ScriptAnswer → Type 0
+  Performs cells old new =
+      let log = (session K r d handed script).log in Answered cells old new × WithoutGaps K r d log × OnEveryLine (LineTrue K r d) log
 
   -- under "holds"; otherwise nothing is written
   abbrev pub PerformsIf : Result (Option (Break C)) Fault → List ℕ → List ScriptAnswer → List ScriptAnswer → Type 0
@@ -45,20 +47,21 @@ module _ {C : Type 0} (K : Kind C) (S : Sending C) (r : Local) (d : Weights K.gr
   PerformsIf (Ok (Some b)) = λ cells old new. (cells ≡ handed.cells) × (new ≡ old)
   PerformsIf (Err f) = λ cells old new. (cells ≡ handed.cells) × (new ≡ old)
 
+  -- a verdict that means what was found, and what was performed by it
+  pub record PlayFinds (found : Result (Option (ℕ × List ℕ)) Refusal) (cells : List ℕ) (old new : List ScriptAnswer) (verdict : Result (Option (Break C)) Fault) : Type 0 where
+    pub verdict_is : VerdictIs K r d found verdict
+    pub performs : PerformsIf verdict cells old new
+
 -- A preset of one kind, judged and played on: some charges that are sent as its entries are judged, once there is room for
 -- the answers.
 module _ {C : Type 0} (K : Kind C) (S : Sending C) (h : Header) (letters : List ℕ) (entries : List Entry) (script : List Asking)
-    (cells cells_after : List ℕ) (old new : List ScriptAnswer) where
-  abbrev pub judged_for : List C → Result (Option (ℕ × List ℕ)) Refusal
-  judged_for charges = with_answers (length script) (length old) (preset_found K most_words most_shown h letters charges)
-
+    (cells left : List ℕ) (old new : List ScriptAnswer) where
   pub record PlayedOn (handed : Strips K.group.Carrier) (answer : JudgeAnswer) : Type 0 where
     pub charges : List C
     pub sent : map S.entry charges ≡ entries
     pub verdict : Result (Option (Break C)) Fault
-    pub verdict_is : VerdictIs K (preset_rule h letters) (preset_density K h charges) (judged_for charges) verdict
+    pub finds : PlayFinds K S (preset_rule h letters) (preset_density K h charges) handed script (with_answers (length script) (length old) (preset_found K most_words most_shown h letters charges)) left old new verdict
     pub told : answer ≡ told_of S verdict
-    pub performs : PerformsIf K S (preset_rule h letters) (preset_density K h charges) handed script verdict cells_after old new
 
   -- with strips of zeros for all but the cells
   abbrev pub PlayedClean : JudgeAnswer → Type 0
@@ -74,4 +77,4 @@ PlayedAs Both = PlayedClean both both_sending
 -- of some bytes, by what reading them as a preset answers; a refusal writes nothing
 abbrev pub PlayTells : Result Preset Refusal → List Asking → List ℕ → List ℕ → List ScriptAnswer → List ScriptAnswer → JudgeAnswer → Type 0
 PlayTells (Ok p) = PlayedAs p.head.kind p.head.header p.letters p.entries
-PlayTells (Err f) = λ script cells cells_after old new answer. (answer ≡ judge_answer (Err f)) × (cells_after ≡ cells) × (new ≡ old)
+PlayTells (Err f) = λ script cells left old new answer. (answer ≡ judge_answer (Err f)) × (left ≡ cells) × (new ≡ old)

@@ -6,6 +6,7 @@ mod answers;
 mod judge_charges;
 mod judge_kinds;
 mod judge_preset;
+mod play_charges;
 mod play_script;
 mod read_preset;
 mod script;
