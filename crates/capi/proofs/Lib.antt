@@ -1,4 +1,5 @@
 pub mod Judged
 pub mod Loads
+pub mod Performed
 pub mod Sessions
 pub mod Strips

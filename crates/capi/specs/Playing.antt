@@ -36,14 +36,16 @@ module _ {C : Type 0} (K : Kind C) (S : Sending C) (r : Local) (d : Weights K.gr
     pub answers : new ≡ front (map (script_answer S) given) old
     pub cells_left : cells ≡ (session K r d handed script).strips.cells
 
-  -- and the session's log has no gaps and is true on every line
-  abbrev pub Performs : List ℕ → List ScriptAnswer → List ScriptAnswer → Type 0
-  Performs cells old new =
-      let log = (session K r d handed script).log in Answered cells old new × WithoutGaps K r d log × OnEveryLine (LineTrue K r d) log
+  -- unless the bench breaks, and then nothing is written
+  abbrev pub AnsweredIf : Option (Break C) → List ℕ → List ScriptAnswer → List ScriptAnswer → Type 0
+  AnsweredIf None = Answered
+  AnsweredIf (Some b) = λ cells old new. (cells ≡ handed.cells) × (new ≡ old)
 
-  -- under "holds"; otherwise nothing is written
+  -- Under "holds" the answers are the session's, and its log has no gaps and is true on every line; otherwise nothing is
+  -- written.
   abbrev pub PerformsIf : Result (Option (Break C)) Fault → List ℕ → List ScriptAnswer → List ScriptAnswer → Type 0
-  PerformsIf (Ok None) = Performs
+  PerformsIf (Ok None) = λ cells old new.
+      let log = (session K r d handed script).log in Answered cells old new × WithoutGaps K r d log × OnEveryLine (LineTrue K r d) log
   PerformsIf (Ok (Some b)) = λ cells old new. (cells ≡ handed.cells) × (new ≡ old)
   PerformsIf (Err f) = λ cells old new. (cells ≡ handed.cells) × (new ≡ old)
 
@@ -55,7 +57,7 @@ module _ {C : Type 0} (K : Kind C) (S : Sending C) (r : Local) (d : Weights K.gr
 -- A preset of one kind, judged and played on: some charges that are sent as its entries are judged, once there is room for
 -- the answers.
 module _ {C : Type 0} (K : Kind C) (S : Sending C) (h : Header) (letters : List ℕ) (entries : List Entry) (script : List Asking)
-    (cells left : List ℕ) (old new : List ScriptAnswer) where
+    (left : List ℕ) (old new : List ScriptAnswer) where
   pub record PlayedOn (handed : Strips K.group.Carrier) (answer : JudgeAnswer) : Type 0 where
     pub charges : List C
     pub sent : map S.entry charges ≡ entries
@@ -63,9 +65,9 @@ module _ {C : Type 0} (K : Kind C) (S : Sending C) (h : Header) (letters : List 
     pub finds : PlayFinds K S (preset_rule h letters) (preset_density K h charges) handed script (with_answers (length script) (length old) (preset_found K most_words most_shown h letters charges)) left old new verdict
     pub told : answer ≡ told_of S verdict
 
-  -- with strips of zeros for all but the cells
-  abbrev pub PlayedClean : JudgeAnswer → Type 0
-  PlayedClean = PlayedOn (clean K cells)
+-- with strips of zeros for all but the cells
+abbrev pub PlayedClean : {C : Type 0} → Kind C → Sending C → Header → List ℕ → List Entry → List Asking → List ℕ → List ℕ → List ScriptAnswer → List ScriptAnswer → JudgeAnswer → Type 0
+PlayedClean K S h letters entries script cells left old new = PlayedOn K S h letters entries script left old new (clean K cells)
 
 -- of any kind
 abbrev pub PlayedAs : ChargeKind → Header → List ℕ → List Entry → List Asking → List ℕ → List ℕ → List ScriptAnswer → List ScriptAnswer → JudgeAnswer → Type 0
