@@ -5,7 +5,7 @@ use Rattle.fault.specs.declared.Fault.{Fault}
 use Rattle.fault.specs.declared.Stop.TheVariants.{ShortStrip}
 use Rattle.fault.specs.Answers.{and_then, front}
 use Rattle.fault.specs.Limits.{most_words}
-use Rattle.fault.specs.Refusals.{Refusal, refused_at}
+use Rattle.fault.specs.Refusals.{refused_at}
 use Rattle.charge.specs.Groups.{Kind}
 use Rattle.automaton.specs.Meanings.{next, total}
 use Rattle.criterion.specs.Search.{padding, failure}
@@ -37,7 +37,7 @@ module _ {C : Type 0} (K : Kind C) (h : Header) (letters : List ℕ) (charges : 
       let d = preset_density K h charges in
       let label = rule_label_list K.group r d in
       ap (λ (b : Bool). and_then (preset_checked K h letters charges) (λ _. and_then (bench_checked r d) (λ _.
-        cond (b && nat_le (2 * label.k - 1) cells) (Ok (failure K padding label)) (Err (refused_at ShortStrip 0)))))
+      cond (b && nat_le (2 * label.k - 1) cells) (Ok (failure K padding label)) (Err (refused_at ShortStrip 0)))))
       (le-min (h.q ^ (h.n + h.k - 1 - 1)) room most_words (crossings_few h sized))
 
   pub judged-on : (S : Sending C) (entries old new : List Entry) (strip ring : List ℕ) (work now : List C) (verdict : Result (Option (Break C)) Fault) (count : ℕ) (answer : JudgeAnswer)
@@ -51,9 +51,9 @@ module _ {C : Type 0} (K : Kind C) (h : Header) (letters : List ℕ) (charges : 
       let r' = preset_rule h letters in
       let d = preset_density K h charges in
       let same : preset_found K (length work) (length strip) h letters charges ≡ preset_found K (length old) (length strip) h letters charges =
-        ap (λ n. preset_found K n (length strip) h letters charges) size ∙ room-enough (length old) (length strip) in
+      ap (λ n. preset_found K n (length strip) h letters charges) size ∙ room-enough (length old) (length strip) in
       let is : JudgeFinds K r' d (preset_found K (length old) (length strip) h letters charges) work now strip ring verdict =
-        subst (λ f. JudgeFinds K r' d f work now strip ring verdict) same finds in
+      subst (λ f. JudgeFinds K r' d f work now strip ring verdict) same finds in
       record {
         charges = charges;
         sent = sent;

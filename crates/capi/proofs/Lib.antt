@@ -1,3 +1,4 @@
+pub mod Clean
 pub mod Judged
 pub mod Loads
 pub mod Performed

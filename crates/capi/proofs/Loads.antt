@@ -1,5 +1,5 @@
 -- How many entries a preset has that was read. Assumes nothing.
-use Rattle.std.proofs.Common.{◌≡◌, ◌+◌, ◌-◌, ◌^◌, ◌≤◌, length, subst, sym, le_trans, arith}
+use Rattle.std.proofs.Common.{◌+◌, ◌-◌, ◌≤◌, length, subst, sym, le_trans, arith}
 use native.Mathlib.Nat.{pow-le-pow_right}
 use Rattle.fault.specs.Limits.{most_words}
 use Rattle.preset.specs.declared.loaded.Loaded.{Loaded}

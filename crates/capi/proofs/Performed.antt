@@ -1,9 +1,8 @@
 -- What playing finds and writes, from the verdict and what was answered. Assumes nothing.
-use Rattle.std.proofs.Common.{◌≡◌, ℕ, List, map, Some, None, Ok, Err, Option, Result, sym, refl, ap, ◌∙◌, subst}
+use Rattle.std.proofs.Common.{◌≡◌, ℕ, List, Some, None, Ok, Err, Option, Result, sym, refl, ap, ◌∙◌, subst}
 use Rattle.std.specs.Option.{option_map}
-use Rattle.fault.specs.declared.Fault.{Fault}
 use Rattle.fault.specs.Answers.{and_then}
-use Rattle.fault.specs.Refusals.{Refusal, refusal}
+use Rattle.fault.specs.Refusals.{Refusal}
 use Rattle.charge.specs.Groups.{Kind}
 use Rattle.automaton.specs.Meanings.{Local, Weights, Lawful, Weighed, next, total}
 use Rattle.preset.specs.Sending.{Sending}
@@ -12,14 +11,14 @@ use Rattle.bench.specs.declared.state.Verdict.{Verdict}
 use Rattle.bench.specs.declared.state.Verdict.TheVariants.{Holds, Breaks}
 use Rattle.bench.specs.Answers.{verdict_means, found_said, break_of}
 use Rattle.bench.specs.Laws.{VerdictRight}
-use Rattle.bench.specs.Verdicts.{Judgement, Broken, bench_checked, broken, verdict_of}
+use Rattle.bench.specs.Verdicts.{Judgement, Broken, bench_checked, broken}
 use Rattle.bench.specs.Verdicts.Judgement.{holds, breaks}
 use Rattle.player.specs.Calls.{Strips}
 use Rattle.player.specs.Logs.{OnEveryLine, WithoutGaps, LineTrue}
 use Rattle.player.specs.Whole.{LogTrue}
 use Rattle.player.proofs.Whole.{verdict_on, log_true}
 use Rattle.capi.specs.declared.answers.ScriptAnswer.{ScriptAnswer}
-use Rattle.capi.specs.Scripts.{Asking, session}
+use Rattle.capi.specs.Scripts.{Asking}
 use Rattle.capi.specs.Playing.{AnsweredIf, PlayFinds}
 use Rattle.capi.proofs.Sessions.{calls_in, session_alike}
 

@@ -1,16 +1,15 @@
 -- A session of structs from C has the log and the strips of the calls in it. Assumes nothing.
-use Rattle.std.proofs.Common.{◌≡◌, ℕ, ◌+◌, ◌<◌, List, [], ◌∷◌, ◌++◌, map, length, get_or, take, drop, set, fold, Some, None, Ok, Err, Option, Result, sym, refl, ap, ◌∙◌, ap₂, subst, length-append}
-use Rattle.std.specs.Option.{option_map}
+use Rattle.std.proofs.Common.{◌≡◌, ℕ, ◌+◌, ◌<◌, List, [], ◌∷◌, ◌++◌, map, length, get_or, take, drop, set, fold, Some, None, Ok, Err, Option, sym, refl, ap, ◌∙◌, ap₂, subst, length-append}
 use Rattle.std.proofs.lemmas.List.{length-map, map_push, take_more, take_more_set, take-append-drop}
 use Rattle.std.proofs.lemmas.List.Sums.{fold_push}
 use Rattle.fault.specs.Answers.{front}
 use Rattle.charge.specs.Groups.{Kind}
 use Rattle.automaton.specs.Meanings.{Local, Weights}
 use Rattle.player.specs.Calls.{Call, Answer, Strips}
-use Rattle.player.specs.Logs.{Log, standing}
+use Rattle.player.specs.Logs.{standing}
 use Rattle.player.specs.Scripts.{Played, logged, left_by, cells_after, played_more, played}
 use Rattle.player.proofs.Scripts.{cells_stand}
-use Rattle.capi.specs.Scripts.{Asking, unplayed, obeyed, session, Obeys}
+use Rattle.capi.specs.Scripts.{Asking, obeyed, session, Obeys}
 
 -- the calls of a script
 abbrev pub calls_in : List Asking → List Call
@@ -76,9 +75,9 @@ module _ {C : Type 0} (K : Kind C) (r : Local) (d : Weights K.group.Carrier) whe
       let p = session K r d first (map asked (take i script)) in
       let more = session_more first asked script i none h in
       let step = obeys_more first (map asked (take i script)) (asked (get_or script i none)) said left cells
-          (subst (λ y. Obeys K r d (length (standing p.log).cells) p.strips y said left cells) is
-          (subst (λ t. Obeys K r d (length (standing p.log).cells) t x said left cells) stand
-          (subst (λ n. Obeys K r d n s x said left cells) size obeys))) in
+      (subst (λ y. Obeys K r d (length (standing p.log).cells) p.strips y said left cells) is
+      (subst (λ t. Obeys K r d (length (standing p.log).cells) t x said left cells) stand
+      (subst (λ n. Obeys K r d n s x said left cells) size obeys))) in
       (ap (λ q. q.said) more ∙ step.0, step.1 ∙ ap (λ q. q.strips) (sym more), step.2 ∙ ap (λ q. length (standing q.log).cells) (sym more))
 
 -- Answers on a strip up to index i: some that are what is said are there, in the form that C gets.

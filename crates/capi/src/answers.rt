@@ -175,6 +175,10 @@ pub(crate) fn script_answer<C: Sent>(answer: Option<Answer<C>>) -> ScriptAnswer
         None => unread(ANSWER_NONE, 0, 0),
         Some(Answer::Done) => unread(ANSWER_DONE, 0, 0),
         Some(Answer::Reading(reading)) => read(reading),
-        Some(Answer::Refused(fault)) => unread(ANSWER_REFUSED, fault.stop.code() as u32, fault.place),
+        Some(Answer::Refused(fault)) => unread(
+            ANSWER_REFUSED,
+            fault.stop.code() as u32,
+            fault.place,
+        ),
     }
 }

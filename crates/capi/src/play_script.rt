@@ -52,8 +52,7 @@ pub(crate) fn play_script<C: Sent, R: Rule + Drop, D: Density<C> + Drop>(
     let mut player = Player::Idle(bench);
     for i in 0..script.len() {
         let asked = script[i].asked(rings);
-        let (next, answer) =
-            answer_one(player, asked, cells, spare, opening, crossed, touched);
+        let (next, answer) = answer_one(player, asked, cells, spare, opening, crossed, touched);
         player = next;
         answers[i] = script_answer(answer);
     }

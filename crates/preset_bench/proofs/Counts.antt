@@ -1,5 +1,5 @@
 -- How many crossings are written. Assumes nothing.
-use Rattle.std.proofs.Common.{◌≡◌, ℕ, ◌+◌, ◌-◌, ◌^◌, ◌≤◌, List, map, length, take, MatchResult, Some, None, Ok, Err, Option, Result, sym, refl, ap, ◌∙◌, subst, le_trans, arith}
+use Rattle.std.proofs.Common.{◌≡◌, ℕ, ◌+◌, ◌-◌, ◌^◌, ◌≤◌, List, map, length, take, MatchResult, Some, None, Ok, Err, Option, Result, sym, refl, ap, ◌∙◌, le_trans, arith}
 use Rattle.std.proofs.lemmas.List.{length-map, length-take}
 use native.Mathlib.Nat.{pow-le-pow_right}
 use Rattle.std.specs.Option.{option_map}

@@ -1,5 +1,4 @@
-use Rattle.std.proofs.Common.{◌≡◌, ◌+◌, ◌-◌, ◌^◌, ◌<◌, ◌≤◌, ap, arith}
-use Rattle.fault.specs.Limits.{most_words}
+use Rattle.std.proofs.Common.{◌≡◌, ◌+◌, ◌-◌, arith}
 use Rattle.preset_bench.proofs.Counts.{crossings_few}
 use Rattle.capi.proofs.judge_charges.crossing_count.Goals as goal
 

@@ -1,4 +1,5 @@
-use Rattle.std.proofs.Common.{◌≡◌, ◌≤◌, true, length, map, take, subst, ap, arith}
+use Rattle.std.proofs.Common.{◌≡◌, ℕ, ◌≤◌, true, length, map, take, sym, subst, arith}
+use Rattle.std.proofs.lemmas.List.{length-map}
 use Rattle.std.specs.List.{AllByRecursion}
 use Rattle.fault.specs.Limits.{most_words}
 use Rattle.preset.specs.Entries.{fits}
@@ -31,11 +32,11 @@ returns g c =
     let handed = strips K a.cells.now a.spare.now a.opening.now a.crossed.now a.touched.now in
     let script = map (script_call a.rings.now) a.script.now in
     let new = c.play_tables-found.new in
+    let at : ℕ → ℕ → Type 0 = λ n room. PlayFinds K S (preset_rule p.header p.letters.now) (preset_density K p.header charges) handed script (with_answers n (length a.answers.now) (preset_found K room most_shown p.header p.letters.now charges)) new.cells a.answers.now new.answers c.play_tables-found.result in
     record {
       charges = charges;
       sent = filled-sent S p.entries.now a.charges.now c.fill_charges.new.strip some allowed c.fill_charges.ensures.strip;
       verdict = c.play_tables-found.result;
-      finds = subst (λ n. PlayFinds K S (preset_rule p.header p.letters.now) (preset_density K p.header charges) handed script (with_answers (length script) (length a.answers.now) (preset_found K n most_shown p.header p.letters.now charges)) new.cells a.answers.now new.answers c.play_tables-found.result)
-          c.requires.crossing_room ?;
+      finds = subst (λ n. at n most_words) (sym (length-map a.script.now (script_call a.rings.now))) (subst (at (length a.script.now)) c.requires.crossing_room c.play_tables-found.ensures);
       told = c.judge_answer.ensures;
     }

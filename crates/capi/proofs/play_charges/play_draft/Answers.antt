@@ -1,4 +1,4 @@
-use Rattle.std.proofs.Common.{◌≡◌, map, length, subst}
+use Rattle.std.proofs.Common.{map, length, subst}
 use Rattle.bench.specs.Verdicts.{judge_found}
 use Rattle.bench.proofs.Searches.{sizes-pass}
 use Rattle.player.specs.Answers.{strips}

@@ -1,12 +1,11 @@
-use Rattle.std.proofs.Common.{◌≡◌, ◌<◌, ◌≤◌, [], map, length, take, drop, sym, refl, ap, ◌∙◌, subst, arith}
+use Rattle.std.proofs.Common.{◌<◌, [], map, length, refl, ap, ◌∙◌, subst, arith}
 use Rattle.std.specs.Option.{option_map}
-use Rattle.std.proofs.lemmas.List.{take_all, drop-set-lt, drop-drop}
-use Rattle.player.specs.Logs.{standing}
+use Rattle.std.proofs.lemmas.List.{take_all}
 use Rattle.player.specs.Answers.{strips, answered, open_cells}
 use Rattle.player.proofs.Plays.{answers_past}
 use Rattle.capi.specs.Answers.{script_answer}
 use Rattle.capi.specs.Scripts.{asks, script_call, session, Obeys}
-use Rattle.capi.proofs.Sessions.{Given, session_step, given_more, given_front}
+use Rattle.capi.proofs.Sessions.{session_step, given_more, given_front}
 use Rattle.capi.proofs.play_script.play_script.Goals as goal
 
 pub loop-i-init : goal.loop-i-init
