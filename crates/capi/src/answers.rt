@@ -26,6 +26,15 @@ const NO_HEADER: Header = Header {
     k: 0,
 };
 
+// What a call of a script was answered, as a number.
+const ANSWER_NONE: u32 = 0;
+
+const ANSWER_DONE: u32 = 1;
+
+const ANSWER_READING: u32 = 2;
+
+const ANSWER_REFUSED: u32 = 3;
+
 // The header of a preset that was read, or a refusal.
 #[derive(Clone, Copy)]
 #[repr(C)]
@@ -48,15 +57,6 @@ pub struct JudgeAnswer {
     pub before: Entry,
     pub after: Entry,
 }
-
-// What a call of a script was answered.
-pub const ANSWER_NONE: u32 = 0;
-
-pub const ANSWER_DONE: u32 = 1;
-
-pub const ANSWER_READING: u32 = 2;
-
-pub const ANSWER_REFUSED: u32 = 3;
 
 // The answer to a call of a script: none, done, a reading of a site, or a refusal.
 #[derive(Clone, Copy)]
