@@ -1,8 +1,7 @@
 //! Judging, on presets of all kinds and sizes, damaged ones, and strips of all lengths around what is needed.
 
 use ctest::draws::{any_preset, damaged, preset, sizes};
-use ctest::format::{KINDS, Preset, Refusal, preset_bytes, read_preset};
-use ctest::judge::code;
+use ctest::format::{KINDS, Kind, Preset, Refusal, preset_bytes, read_preset};
 use ctest::library::{Entry, JudgeAnswer, judge};
 use ctest::random::Random;
 
@@ -118,7 +117,7 @@ fn small_presets() {
     }
 }
 
-/// Each cell's letter is a number that the rule keeps where it moves one half of the cells' letters.
+/// All elementary rules, letter a weighing a. Five of them keep the number of ones.
 #[test]
 fn elementary_rules() {
     for kind in KINDS {
@@ -132,11 +131,11 @@ fn elementary_rules() {
                 letters: (0..8).map(|c| (number >> c & 1) as u8).collect(),
                 entries: (0..2)
                     .map(|a| match kind {
-                        ctest::format::Kind::Voices => Entry {
+                        Kind::Voices => Entry {
                             signed: a,
                             plain: 0,
                         },
-                        ctest::format::Kind::Both => Entry {
+                        Kind::Both => Entry {
                             signed: a,
                             plain: a as u64,
                         },
@@ -148,12 +147,11 @@ fn elementary_rules() {
                     .collect(),
             };
             let held = holds(&preset_bytes(&preset));
-            if kind == ctest::format::Kind::Voices {
+            if kind == Kind::Voices {
                 assert_eq!(held, [184, 226, 170, 204, 240].contains(&number));
             }
         }
     }
-    assert_eq!(code(2, &[1, 0, 0]), 4);
 }
 
 #[test]
