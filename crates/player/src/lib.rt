@@ -21,5 +21,5 @@ pub use call::{Answer, Call};
 pub use ledger::Ledger;
 pub use meters::Reading;
 pub use performing::{Performed, perform};
-pub use player::{Player, PlayerOf};
+pub use player::{Player, PlayerOf, obey};
 pub use playing::Playing;

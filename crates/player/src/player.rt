@@ -102,7 +102,7 @@ fn obey_playing<C: Charge, R: Rule, D: Density<C>>(
 }
 
 // Answers a call. One that the state does not allow has no answer.
-fn obey<C: Charge, R: Rule, D: Density<C>>(
+pub fn obey<C: Charge, R: Rule, D: Density<C>>(
     player: PlayerOf<C, R, D>,
     call: Call<'_>,
     cells: &mut [u8],

@@ -78,13 +78,13 @@ sized_from h e =
     }
 
 -- each item is allowed
-fits_from : {X : Type 0} (ok : X → Bool) (stop : Stop) (i : ℕ) (xs : List X) → each_fits ok stop i xs ≡ Ok tt → AllByRecursion (λ x. ok x ≡ true) xs
+pub fits_from : {X : Type 0} (ok : X → Bool) (stop : Stop) (i : ℕ) (xs : List X) → each_fits ok stop i xs ≡ Ok tt → AllByRecursion (λ x. ok x ≡ true) xs
 fits_from ok stop i [] e = tt
 fits_from ok stop i (x ∷ xs) e =
     let s = then_rest (ok x) (each_fits ok stop (i + 1) xs) (refused_at stop i) e in
     (s.0, fits_from ok stop (i + 1) xs s.1)
 
-fits_to : {X : Type 0} (ok : X → Bool) (stop : Stop) (i : ℕ) (xs : List X) → AllByRecursion (λ x. ok x ≡ true) xs → each_fits ok stop i xs ≡ Ok tt
+pub fits_to : {X : Type 0} (ok : X → Bool) (stop : Stop) (i : ℕ) (xs : List X) → AllByRecursion (λ x. ok x ≡ true) xs → each_fits ok stop i xs ≡ Ok tt
 fits_to ok stop i [] u = refl
 fits_to ok stop i (x ∷ xs) u = rw u.0 (fits_to ok stop (i + 1) xs u.1)
 

@@ -12,8 +12,9 @@ use crate::shape::Shape;
 use charge::{CHANNEL_SETS, ChargeKind, LEAST_VOICES, MOST_VOICES, PITCH_CLASSES};
 use fault::{Fault, Stop};
 
-// A charge of any kind. A part that the kind lacks is 0.
+// A charge of any kind. A part that the kind lacks is 0. C has the same struct.
 #[derive(Clone, Copy, PartialEq, Eq, Debug)]
+#[repr(C)]
 pub struct Entry {
     pub signed: i64,
     pub plain: u64,

@@ -11,8 +11,9 @@ use fault::limits::{LEAST_LETTERS, MOST_LETTERS, MOST_WIDTH, MOST_WINDOW, word_c
 use fault::{Fault, Stop};
 
 // The number of the kind of charge, the alphabet size q, the rule's window n and reach l, and the density's
-// width k. The numbers are wide enough to be wrong: whoever takes a header checks it.
+// width k. The numbers are wide enough to be wrong: whoever takes a header checks it. C has the same struct.
 #[derive(Clone, Copy, PartialEq, Eq, Debug)]
+#[repr(C)]
 pub struct Header {
     pub kind: u64,
     pub q: u64,

@@ -23,27 +23,12 @@ use Rattle.bench.specs.Answers.{found_said}
 use Rattle.bench.specs.Labels.{rule_label_list}
 use Rattle.bench.specs.Verdicts.{broken}
 use Rattle.report.specs.declared.line.Line.{Line}
-use Rattle.report.specs.Finds.{JudgeFinds, preset_rule, preset_density, preset_found, answer_good}
+use Rattle.preset_bench.proofs.Counts.{count-is}
+use Rattle.preset_bench.specs.Finds.{JudgeFinds, preset_rule, preset_density, preset_found}
+use Rattle.report.specs.Finds.{answer_good}
 use Rattle.report.specs.Lines.{LineIs}
 use Rattle.report.specs.Reports.{ToldCrossings, crossing_shape}
 use Rattle.report.specs.Texts.{Shape, row_text, rows_text}
-
--- whether an answer is a refusal, as a number
-refuses : {X : Type 0} → Result X Refusal → ℕ
-refuses (Ok x) = 0
-refuses (Err f) = 1
-
-answers : {C : Type 0} (K : Kind C) (o : Option (Break C)) → refuses (found_said K (Ok o)) ≡ 0
-unfolding refuses
-answers K None = refl
-answers K (Some b) = refl
-
-module _ {C : Type 0} (K : Kind C) (label : Weights K.group.Carrier) (first second : List ℕ → K.group.Carrier) where
-  count-is : (found : Result (Option (ℕ × List ℕ)) Refusal) (o : Option (Break C)) → found_said K (Ok o) ≡ and_then found (λ f. Ok (option_map (broken first second) f))
-      → length (unless_refused found (crossings K padding label)) ≡ label.q ^ (label.k - 1)
-  unfolding refuses
-  count-is (Ok f) o e = length-table (label.q ^ (label.k - 1)) (λ v. J K padding label (word label.q (label.k - 1) v))
-  count-is (Err f) o e = let z : ◌≡◌ {A = ℕ} 0 1 = sym (answers K o) ∙ ap refuses e in absurd (omega arith)
 
 pub page-told : {C : Type 0} (K : Kind C) (S : Sending C) (room cells : ℕ) (h : Header) (letters : List ℕ) (charges old new : List C) (strip ring : List ℕ) (o : Option (Break C))
     → JudgeFinds K (preset_rule h letters) (preset_density K h charges) (preset_found K room cells h letters charges) old new strip ring (Ok o)
@@ -85,10 +70,3 @@ refusal-told K S room cells h letters charges old new strip ring f finds = recor
 pub refused_is : {X : Type 0} (P : Result X Fault → Type 0) (r : Result X ShowError) (f : Fault) → IsErrAnd r (λ e. e ≡ Refused f) → P (Err f) → IfSome (unless_memory r) P
 refused_is P (Ok x) f is h = absurd is
 refused_is {X} P (Err e) f is h = subst (λ (x : ShowError). IfSome (unless_memory {X = X} (Err x)) P) (sym is) h
-
--- there are few words of one letter fewer than a label's
-pub crossings_few : (h : Header) → Sized h → h.q ^ (h.n + h.k - 1 - 1) ≤ most_words
-crossings_few h s =
-    let some : 1 ≤ h.q = omega (arith, s.letters_some) in
-    let fewer : h.n + h.k - 1 - 1 ≤ h.n + h.k - 1 = omega arith in
-    le_trans (pow-le-pow_right some fewer) s.few

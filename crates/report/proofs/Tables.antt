@@ -1,6 +1,6 @@
--- One row or one charge more. Assumes nothing.
-use Rattle.std.proofs.Common.{◌≡◌, ℕ, suc, ◌+◌, ◌<◌, List, [], ◌∷◌, ◌++◌, map, length, get_or, take, sym, ap, ◌∙◌, append_assoc, append-nil, add-zero, zero-add, arith}
-use Rattle.std.proofs.lemmas.List.{take_more, length-take-le, map_push}
+-- One row more. Assumes nothing.
+use Rattle.std.proofs.Common.{◌≡◌, ℕ, suc, ◌+◌, ◌<◌, List, [], ◌∷◌, ◌++◌, length, get_or, take, sym, ap, ◌∙◌, append_assoc, append-nil, add-zero, zero-add, arith}
+use Rattle.std.proofs.lemmas.List.{take_more, length-take-le}
 use Rattle.report.specs.Texts.{rows_text}
 
 module _ {X : Type 0} (row : ℕ → X → List ℕ) where
@@ -20,9 +20,3 @@ module _ {X : Type 0} (row : ℕ → X → List ℕ) where
       ∙ (ap (λ (n : ℕ). rows_text row 0 (take i xs) ++ row n x) (sym k)
       ∙ (sym (rows_push 0 (take i xs) x)
       ∙ (ap (λ (y : X). rows_text row 0 (take i xs ++ (y ∷ []))) here ∙ ap (rows_text row 0) (sym (take_more xs i x h))))))
-
--- one charge more
-pub sent_more : {C E : Type 0} (f : C → E) (es : List E) (i : ℕ) (d : E) → i < length es
-    → (cs ds : List C) (c : C) → map f cs ≡ take i es → f c ≡ get_or es i d → ds ≡ cs ++ (c ∷ []) → map f ds ≡ take (i + 1) es
-sent_more f es i d h cs ds c inv is now =
-    ap (map f) now ∙ (map_push f cs c ∙ ((λ j. inv j ++ (is j ∷ [])) ∙ sym (take_more es i d h)))

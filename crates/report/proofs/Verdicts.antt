@@ -16,7 +16,7 @@ use Rattle.bench.specs.Verdicts.{Broken, broken}
 use Rattle.report.specs.declared.line.Line.{Line}
 use Rattle.report.specs.declared.line.Question.{Question}
 use Rattle.report.specs.Texts.{Shape}
-use Rattle.report.specs.Finds.{Finds, sent_break, sent_found}
+use Rattle.preset_bench.specs.Finds.{Finds, sent_break, sent_found}
 use Rattle.report.specs.Lines.{LineIs}
 use Rattle.report.specs.Reports.{VerdictLine}
 use Rattle.report.specs.Texts.{finding_text, verdict_text, verdict_good, ring_fits}

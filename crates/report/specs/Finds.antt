@@ -1,70 +1,28 @@
--- What judging a preset and comparing two presets find. Assumes nothing.
-use Rattle.std.specs.Prelude.{◌≡◌, ℕ, ◌^◌, Bool, true, false, List, Some, None, Ok, Err, Option, Result}
-use Rattle.std.specs.Option.{option_map}
+-- What comparing the densities of two presets finds. Assumes nothing.
+use Rattle.std.specs.Prelude.{ℕ, Bool, true, false, List, Some, None, Option, Result}
 use Rattle.fault.specs.declared.Fault.{Fault}
-use Rattle.fault.specs.Answers.{and_then, front}
+use Rattle.fault.specs.Answers.{and_then}
 use Rattle.fault.specs.Refusals.{Refusal}
 use Rattle.charge.specs.Groups.{Kind}
-use Rattle.automaton.specs.Making.{table_rule, table_density, rule_making, table_making, done}
-use Rattle.automaton.specs.Meanings.{Local, Weights, next, total}
-use Rattle.criterion.specs.Answers.{ring_written, unless_refused}
-use Rattle.criterion.specs.Search.{padding, crossings}
-use Rattle.criterion.specs.Strips.{FrontMeans}
-use Rattle.preset.specs.declared.entry.Entry.{Entry}
+use Rattle.automaton.specs.Making.{table_making, done}
+use Rattle.automaton.specs.Meanings.{Weights, total}
 use Rattle.preset.specs.declared.header.Header.{Header}
-use Rattle.preset.specs.Sending.{Sending}
 use Rattle.bench.specs.declared.state.Break.{Break}
-use Rattle.bench.specs.Answers.{found_said}
-use Rattle.bench.specs.Labels.{rule_label_list, two_label_list}
-use Rattle.bench.specs.Laws.{VerdictRight, ComparisonRight}
-use Rattle.bench.specs.Verdicts.{broken, judge_found, compare_found}
+use Rattle.bench.specs.Labels.{two_label_list}
+use Rattle.bench.specs.Laws.{ComparisonRight}
+use Rattle.bench.specs.Verdicts.{compare_found}
+use Rattle.preset_bench.specs.Finds.{Finds, preset_density}
 
--- What was found for a label on two strips: an answer with the two totals of the ring shown, the crossings, the ring,
--- and what is right of all rings.
-pub record Finds {C : Type 0} (K : Kind C) (label : Weights K.group.Carrier) (first second : List ℕ → K.group.Carrier) (Right : Result (Option (ℕ × List ℕ)) Refusal → Type 0)
-    (found : Result (Option (ℕ × List ℕ)) Refusal) (old new : List C) (strip ring : List ℕ) (answer : Result (Option (Break C)) Fault) : Type 0 where
-  pub said : found_said K answer ≡ and_then found (λ f. Ok (option_map (broken first second) f))
-  pub crossed : FrontMeans K (unless_refused found (crossings K padding label)) old new
-  pub shown : ring ≡ front (ring_written found) strip
-  pub right : Right found
-
--- for a rule under a density, and for two densities
-abbrev pub JudgeFinds : {C : Type 0} (K : Kind C) → Local → Weights K.group.Carrier → Result (Option (ℕ × List ℕ)) Refusal → List C → List C → List ℕ → List ℕ → Result (Option (Break C)) Fault → Type 0
-JudgeFinds K r d = Finds K (rule_label_list K.group r d) (total K.group d) (λ c. total K.group d (next r c)) (VerdictRight K r d)
-
+-- what was found for two densities
 abbrev pub CompareFinds : {C : Type 0} (K : Kind C) → Weights K.group.Carrier → Weights K.group.Carrier → Result (Option (ℕ × List ℕ)) Refusal → List C → List C → List ℕ → List ℕ → Result (Option (Break C)) Fault → Type 0
 CompareFinds K d e = Finds K (two_label_list K.group d e) (total K.group d) (total K.group e) (ComparisonRight K d e)
 
--- the rule of a preset, and its density by charges
-abbrev pub preset_rule : Header → List ℕ → Local
-preset_rule h letters = table_rule h.q h.n h.l letters
-
-abbrev pub preset_density : {C : Type 0} → (K : Kind C) → Header → List C → Weights K.group.Carrier
-preset_density K h charges = table_density K h.q h.k charges
-
-module _ {C : Type 0} (K : Kind C) (crossing_room ring_room : ℕ) where
-  -- what judging finds, once the rule and the density are made
-  abbrev pub preset_found : Header → List ℕ → List C → Result (Option (ℕ × List ℕ)) Refusal
-  preset_found h letters charges =
-      and_then (done (rule_making h.q h.n h.l (h.q ^ h.n) letters)) (λ _.
-      and_then (done (table_making K h.q h.k charges)) (λ _.
-      judge_found K crossing_room ring_room (preset_rule h letters) (preset_density K h charges)))
-
-  -- what comparing finds, once the two densities are made
-  abbrev pub pair_found : Header → List C → Header → List C → Result (Option (ℕ × List ℕ)) Refusal
-  pair_found h charges h' charges' =
-      and_then (done (table_making K h.q h.k charges)) (λ _.
-      and_then (done (table_making K h'.q h'.k charges')) (λ _.
-      compare_found K crossing_room ring_room (preset_density K h charges) (preset_density K h' charges')))
-
--- a break with its totals as entries, and what was found likewise
-abbrev pub sent_break : {C : Type 0} → Sending C → Break C → Break Entry
-sent_break S b = record { word = b.word; len = b.len; first = S.entry b.first; second = S.entry b.second }
-
-abbrev pub sent_found : {C : Type 0} → Sending C → Result (Option (Break C)) Fault → Result (Option (Break Entry)) Fault
-sent_found S (Ok None) = Ok None
-sent_found S (Ok (Some b)) = Ok (Some (sent_break S b))
-sent_found S (Err f) = Err f
+-- what comparing finds on strips of some lengths, once the two densities are made
+abbrev pub pair_found : {C : Type 0} → Kind C → ℕ → ℕ → Header → List C → Header → List C → Result (Option (ℕ × List ℕ)) Refusal
+pair_found K crossing_room ring_room h charges h' charges' =
+    and_then (done (table_making K h.q h.k charges)) (λ _.
+    and_then (done (table_making K h'.q h'.k charges')) (λ _.
+    compare_found K crossing_room ring_room (preset_density K h charges) (preset_density K h' charges')))
 
 -- no word failed
 abbrev pub answer_good : {C : Type 0} → Option (Break C) → Bool

@@ -25,7 +25,8 @@ use Rattle.bench.specs.Verdicts.{broken}
 use Rattle.report.specs.declared.line.Line.{Line}
 use Rattle.report.specs.declared.line.Question.{Question}
 use Rattle.report.specs.declared.line.Question.TheVariants.{Judge, Compare}
-use Rattle.report.specs.Finds.{preset_rule, preset_density, preset_found, pair_found, sent_found, answer_good}
+use Rattle.preset_bench.specs.Finds.{preset_rule, preset_density, preset_found, sent_found}
+use Rattle.report.specs.Finds.{pair_found, answer_good}
 use Rattle.report.specs.Lines.{LineIs}
 use Rattle.report.specs.Texts.{Shape, kinds_text, two_names, refused_text, verdict_text, verdict_good, row_text, rows_text}
 

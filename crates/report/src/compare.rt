@@ -1,6 +1,7 @@
 // The densities of two presets that were read, compared.
 ghost use Rattle.std.specs.Prelude.{length};
-ghost use Rattle.report.specs.Finds.{CompareFinds, preset_density, pair_found};
+ghost use Rattle.preset_bench.specs.Finds.{preset_density};
+ghost use Rattle.report.specs.Finds.{CompareFinds, pair_found};
 
 use automaton::TableDensity;
 use bench::{Break, compare};

@@ -9,10 +9,11 @@ use crate::charges::charges_of;
 use crate::compare::compare_tables;
 use crate::line::{Line, Question, Shape};
 use crate::texts::{Asked, kinds_line, refused_line};
-use crate::verdict::{CROSSING_ROOM, sent_found};
+use crate::verdict::CROSSING_ROOM;
 use charge::{Both, Channels, ChargeKind, Pitch, Voices};
 use criterion::MOST_SHOWN;
 use preset::{Loaded, Sent, Strips};
+use preset_bench::sent_found;
 use std::alloc::{AllocError, Global};
 
 // The kind and the alphabet of two densities, and the words that their label is on.

@@ -8,7 +8,6 @@ ghost use Rattle.report.specs.Texts.{row_text, rows_text, shape_of};
 ghost use Rattle.report.specs.Reports.{CrossingsPage, CrossedAs, CrossingsTell, crossing_shape};
 
 use crate::charges::charges_of;
-use crate::judge::judge_tables;
 use crate::line::{Line, Shape};
 use crate::rows::rows_text;
 use crate::verdict::{CROSSING_ROOM, judge_shape};
@@ -17,6 +16,7 @@ use charge::{Both, Channels, ChargeKind, Pitch, Voices};
 use console::ShowError;
 use criterion::MOST_SHOWN;
 use preset::{Loaded, Sent, Strips};
+use preset_bench::judge;
 use std::alloc::{AllocError, Global};
 
 // The kind and the alphabet of a preset, and the words that crossings are on: one letter fewer than its label's.
@@ -54,7 +54,7 @@ fn cross_charges<C: Sent>(alloc: Global, preset: Loaded<'_>) -> Result<Line, Sho
     let mut strip = vec![in alloc; C::zero(); CROSSING_ROOM]?;
     let crossings = strip.as_mut_slice();
     let mut ring = [0u8; MOST_SHOWN];
-    let found = judge_tables(preset, &charges, crossings, &mut ring)?;
+    let found = judge(preset, &charges, crossings, &mut ring)?;
     Ok(page_line(alloc, crossing_shape(preset), crossings, found)?)
 }
 

@@ -5,7 +5,6 @@ mod charges;
 mod compare;
 mod comparing;
 mod crossing;
-mod judge;
 mod judging;
 mod line;
 mod rows;

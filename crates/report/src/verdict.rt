@@ -1,44 +1,20 @@
 // A preset that was read, judged and told.
 ghost use Rattle.std.specs.Prelude.{◌≡◌, IfOk};
-ghost use Rattle.report.specs.Finds.{sent_break, sent_found};
 ghost use Rattle.report.specs.Texts.{shape_of};
 ghost use Rattle.report.specs.Reports.{JudgeLine, JudgedAs, judge_shape};
 
 use crate::charges::charges_of;
-use crate::judge::judge_tables;
 use crate::line::{Line, Question, Shape};
 use crate::texts::Asked;
-use bench::Break;
 use charge::{Both, Channels, ChargeKind, Pitch, Voices};
 use criterion::MOST_SHOWN;
-use fault::Fault;
 use fault::limits::MOST_WORDS;
-use preset::{Entry, Loaded, Sent};
+use preset::{Loaded, Sent};
+use preset_bench::{judge, sent_found};
 use std::alloc::{AllocError, Global};
 
 // How many crossings a strip has room for: no label has more words.
 pub(crate) const CROSSING_ROOM: usize = MOST_WORDS as usize;
-
-// A break with its totals as entries.
-fn sent_break<C: Sent>(found: Break<C>) -> Break<Entry>
-    ensures { result ≡ sent_break C.sending found }
-{
-    Break {
-        word: found.word,
-        len: found.len,
-        first: found.first.to_entry(),
-        second: found.second.to_entry(),
-    }
-}
-
-// What was found, with its totals as entries.
-pub(crate) fn sent_found<C: Sent>(
-    found: Result<Option<Break<C>>, Fault>,
-) -> Result<Option<Break<Entry>>, Fault>
-    ensures { result ≡ sent_found C.sending found }
-{
-    found.map(|found| found.map(sent_break))
-}
 
 // The kind and the alphabet of a preset, and the words that its label is on.
 pub(crate) fn judge_shape(preset: Loaded<'_>) -> Shape
@@ -60,7 +36,7 @@ fn judge_charges<C: Sent>(alloc: Global, name: &str, preset: Loaded<'_>) -> Resu
     let charges = charges_of::<C>(alloc, preset.entries)?;
     let mut crossings = vec![in alloc; C::zero(); CROSSING_ROOM]?;
     let mut ring = [0u8; MOST_SHOWN];
-    let found = judge_tables(preset, &charges, &mut crossings, &mut ring);
+    let found = judge(preset, &charges, &mut crossings, &mut ring);
     let asked = Asked {
         question: Question::Judge,
         subject: name,

@@ -1,7 +1,6 @@
 // A session: a script that is played on a preset, and what is printed of it.
 use crate::script::{Command, ScriptLine};
-use automaton::{TableDensity, TableRule};
-use bench::{Draft, Verdict};
+use bench::Verdict;
 use charge::{Both, Channels, ChargeKind, Pitch, Voices};
 use console::EntryWord;
 use criterion::MOST_SHOWN;
@@ -9,6 +8,7 @@ use fault::limits::{MOST_CELLS, MOST_WORDS};
 use fault::{Fault, Stop};
 use player::{Answer, ArcReading, Call, Reading, perform};
 use preset::{Loaded, Sent};
+use preset_bench::{draft, fill_charges};
 use std::alloc::{AllocError, Global};
 use std::io;
 use std::io::Write;
@@ -266,17 +266,6 @@ fn script_calls<'a>(
     Ok(calls)
 }
 
-// The charges that the entries of a preset are.
-fn charges<C: Sent>(alloc: Global, preset: Loaded<'_>) -> Result<Vec<C>, AllocError> {
-    let mut charges = Vec::new(alloc);
-    for entry in preset.entries {
-        if let Some(charge) = C::from_entry(*entry) {
-            charges.push(charge)?;
-        }
-    }
-    Ok(charges)
-}
-
 // The answers to some calls on rings of up to `sites` cells.
 pub(crate) fn answers_to<C: Sent>(
     alloc: Global,
@@ -284,15 +273,9 @@ pub(crate) fn answers_to<C: Sent>(
     calls: &[Call<'_>],
     sites: usize,
 ) -> Result<Vec<Option<Answer<C>>>, SessionError> {
-    let header = preset.header;
-    let charges = charges::<C>(alloc, preset)?;
-    let mut rule = TableRule::zero();
-    rule.fill(header.q, header.n, header.l, preset.letters)?;
-    let mut density = TableDensity::zero();
-    density.fill(header.q, header.k, charges.as_slice())?;
-    let Ok(draft) = Draft::new(rule, density) else {
-        return Err(SessionError::Breaks);
-    };
+    let mut charges = vec![in alloc; C::zero(); preset.entries.len()]?;
+    fill_charges(preset.entries, &mut charges)?;
+    let draft = draft(preset, &charges)?;
     let mut crossings = vec![in alloc; C::zero(); MOST_WORDS as usize]?;
     let mut shown = [0u8; MOST_SHOWN];
     let mut cells = vec![in alloc; 0u8; sites]?;

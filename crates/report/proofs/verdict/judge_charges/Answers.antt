@@ -18,4 +18,4 @@ returns g c =
     let same = c.judge_shape.ensures ∙ ap (λ (k : ChargeKind). judge_shape k p.header) c.requires in
     IfOk-weaker c.line.result _ _ (λ l is.
     judge-line K S c.args.name.now p.header p.letters.now p.entries.now c.deref.result.now (length c.deref_mut.result.now) _ room refl sent l
-    (told K S _ _ _ _ _ _ _ _ _ _ c.judge_tables-found.ensures c.sent_found.result c.sent_found.ensures Judge c.args.name.now (shape_of c.judge_shape.result) (judge_shape S.named p.header) same l is)) c.line.ensures
+    (told K S _ _ _ _ _ _ _ _ _ _ c.judge-found.ensures c.sent_found.result c.sent_found.ensures Judge c.args.name.now (shape_of c.judge_shape.result) (judge_shape S.named p.header) same l is)) c.line.ensures

@@ -1,0 +1,67 @@
+-- What judging a preset answers and writes, from what the judge found on strips of charges. Assumes nothing.
+use Rattle.std.proofs.Common.{◌≡◌, ℕ, ◌+◌, ◌-◌, ◌*◌, ◌^◌, ◌≤◌, min, Bool, true, false, cond, ◌&&◌, List, map, length, take, nat_le, MatchResult, Ok, Err, Option, Result, refl, ap, ◌∙◌, subst, leb-true, arith}
+use Rattle.std.proofs.lemmas.Bool.{le-leb, lt-leb, leb-false}
+use Rattle.fault.specs.declared.Fault.{Fault}
+use Rattle.fault.specs.declared.Stop.TheVariants.{ShortStrip}
+use Rattle.fault.specs.Answers.{and_then, front}
+use Rattle.fault.specs.Limits.{most_words}
+use Rattle.fault.specs.Refusals.{refused_at}
+use Rattle.charge.specs.Groups.{Kind}
+use Rattle.automaton.specs.Meanings.{next, total}
+use Rattle.criterion.specs.Search.{padding, failure}
+use Rattle.preset.specs.Sending.{Sending}
+use Rattle.preset.specs.Sizes.{Sized}
+use Rattle.preset.specs.declared.entry.Entry.{Entry}
+use Rattle.preset.specs.declared.header.Header.{Header}
+use Rattle.bench.specs.declared.state.Break.{Break}
+use Rattle.bench.specs.Labels.{rule_label_list}
+use Rattle.bench.specs.Verdicts.{bench_checked}
+use Rattle.preset_bench.specs.Finds.{JudgeFinds, preset_rule, preset_density, preset_checked, preset_found}
+use Rattle.preset_bench.proofs.Counts.{counted, crossings_few}
+use Rattle.capi.specs.declared.answers.JudgeAnswer.{JudgeAnswer}
+use Rattle.capi.specs.Judging.{JudgedOn, told_of}
+
+-- what a strip of a or of m items has room for is the same up to m
+le-min : (n a m : ℕ) → n ≤ m → nat_le n (min a m) ≡ nat_le n a
+le-min n a m few = go (nat_le n a) refl
+  where
+    go : (b : Bool) → nat_le n a ≡ b → nat_le n (min a m) ≡ b
+    go true e = let some : n ≤ a = leb-true n a e in le-leb n (min a m) (omega arith)
+    go false e = lt-leb n (min a m) (let less = leb-false n a e in omega arith)
+
+module _ {C : Type 0} (K : Kind C) (h : Header) (letters : List ℕ) (charges : List C) (sized : Sized h) where
+  -- no preset needs more room than the largest
+  pub room-enough : (room cells : ℕ) → preset_found K (min room most_words) cells h letters charges ≡ preset_found K room cells h letters charges
+  room-enough room cells =
+      let r = preset_rule h letters in
+      let d = preset_density K h charges in
+      let label = rule_label_list K.group r d in
+      ap (λ (b : Bool). and_then (preset_checked K h letters charges) (λ _. and_then (bench_checked r d) (λ _.
+      cond (b && nat_le (2 * label.k - 1) cells) (Ok (failure K padding label)) (Err (refused_at ShortStrip 0)))))
+      (le-min (h.q ^ (h.n + h.k - 1 - 1)) room most_words (crossings_few h sized))
+
+  pub judged-on : (S : Sending C) (entries old new : List Entry) (strip ring : List ℕ) (work now : List C) (verdict : Result (Option (Break C)) Fault) (count : ℕ) (answer : JudgeAnswer)
+      → map S.entry charges ≡ entries → length work ≡ min (length old) most_words
+      → JudgeFinds K (preset_rule h letters) (preset_density K h charges) (preset_found K (length work) (length strip) h letters charges) work now strip ring verdict
+      → MatchResult verdict (λ _. count ≡ h.q ^ (h.n + h.k - 1 - 1)) (λ _. count ≡ 0)
+      → new ≡ front (map S.entry (take count now)) old
+      → answer ≡ told_of S verdict
+      → JudgedOn K S h letters entries old new strip ring answer
+  judged-on S entries old new strip ring work now verdict count answer sent size finds many written told =
+      let r' = preset_rule h letters in
+      let d = preset_density K h charges in
+      let same : preset_found K (length work) (length strip) h letters charges ≡ preset_found K (length old) (length strip) h letters charges =
+      ap (λ n. preset_found K n (length strip) h letters charges) size ∙ room-enough (length old) (length strip) in
+      let is : JudgeFinds K r' d (preset_found K (length old) (length strip) h letters charges) work now strip ring verdict =
+      subst (λ f. JudgeFinds K r' d f work now strip ring verdict) same finds in
+      record {
+        charges = charges;
+        sent = sent;
+        verdict = verdict;
+        verdict_is = record { said = is.said; right = is.right };
+        told = told;
+        crossed = take count now;
+        meant = ap (λ n. map K.means (take n now)) (counted K (rule_label_list K.group r' d) (total K.group d) (λ c. total K.group d (next r' c)) (preset_found K (length old) (length strip) h letters charges) verdict count is.said many) ∙ is.crossed.0;
+        written = written;
+        shown = is.shown;
+      }

@@ -1,0 +1,82 @@
+-- What playing a script on a preset answers and writes. Assumes nothing.
+use Rattle.std.specs.Prelude.{◌≡◌, ℕ, List, map, length, Some, None, Ok, Err, Option, Result}
+use Rattle.std.specs.Option.{option_map}
+use Rattle.fault.specs.declared.Fault.{Fault}
+use Rattle.fault.specs.Answers.{front}
+use Rattle.fault.specs.Limits.{most_words}
+use Rattle.fault.specs.Refusals.{Refusal}
+use Rattle.charge.specs.Groups.{Kind}
+use Rattle.charge.specs.Kinds.{voices, pitch, channels, both}
+use Rattle.charge.specs.declared.kind.ChargeKind.{ChargeKind}
+use Rattle.charge.specs.declared.kind.ChargeKind.TheVariants.{Voices, Pitch, Channels, Both}
+use Rattle.automaton.specs.Meanings.{Local, Weights}
+use Rattle.criterion.specs.Search.{most_shown}
+use Rattle.preset.specs.Presets.{Preset}
+use Rattle.preset.specs.Sending.{Sending, voices_sending, pitch_sending, channels_sending, both_sending}
+use Rattle.preset.specs.declared.entry.Entry.{Entry}
+use Rattle.preset.specs.declared.header.Header.{Header}
+use Rattle.bench.specs.declared.state.Break.{Break}
+use Rattle.player.specs.declared.call.Answer.{Answer}
+use Rattle.player.specs.Answers.{answered}
+use Rattle.player.specs.Calls.{Strips}
+use Rattle.player.specs.Logs.{OnEveryLine, WithoutGaps, LineTrue}
+use Rattle.player.specs.Whole.{with_answers}
+use Rattle.preset_bench.specs.Finds.{preset_rule, preset_density, preset_found}
+use Rattle.capi.specs.declared.answers.JudgeAnswer.{JudgeAnswer}
+use Rattle.capi.specs.declared.answers.ScriptAnswer.{ScriptAnswer}
+use Rattle.capi.specs.Answers.{judge_answer, script_answer}
+use Rattle.capi.specs.Judging.{VerdictIs, told_of}
+use Rattle.capi.specs.Scripts.{Asking, clean, session}
+
+module _ {C : Type 0} (K : Kind C) (S : Sending C) (r : Local) (d : Weights K.group.Carrier) (handed : Strips K.group.Carrier) (script : List Asking) where
+  -- some answers that are the session's stand at the front of the strip of answers, and the cells are the session's
+  pub record Answered (cells : List ℕ) (old new : List ScriptAnswer) : Type 0 where
+    pub given : List (Option (Answer C))
+    pub said : map (option_map (answered K)) given ≡ (session K r d handed script).said
+    pub answers : new ≡ front (map (script_answer S) given) old
+    pub cells_left : cells ≡ (session K r d handed script).strips.cells
+
+  -- unless the bench breaks, and then nothing is written
+  abbrev pub AnsweredIf : Option (Break C) → List ℕ → List ScriptAnswer → List ScriptAnswer → Type 0
+  AnsweredIf None = Answered
+  AnsweredIf (Some b) = λ cells old new. (cells ≡ handed.cells) × (new ≡ old)
+
+  -- Under "holds" the answers are the session's, and its log has no gaps and is true on every line; otherwise nothing is
+  -- written.
+  abbrev pub PerformsIf : Result (Option (Break C)) Fault → List ℕ → List ScriptAnswer → List ScriptAnswer → Type 0
+  PerformsIf (Ok None) = λ cells old new.
+      let log = (session K r d handed script).log in Answered cells old new × WithoutGaps K r d log × OnEveryLine (LineTrue K r d) log
+  PerformsIf (Ok (Some b)) = λ cells old new. (cells ≡ handed.cells) × (new ≡ old)
+  PerformsIf (Err f) = λ cells old new. (cells ≡ handed.cells) × (new ≡ old)
+
+  -- a verdict that means what was found, and what was performed by it
+  pub record PlayFinds (found : Result (Option (ℕ × List ℕ)) Refusal) (cells : List ℕ) (old new : List ScriptAnswer) (verdict : Result (Option (Break C)) Fault) : Type 0 where
+    pub verdict_is : VerdictIs K r d found verdict
+    pub performs : PerformsIf verdict cells old new
+
+-- A preset of one kind, judged and played on: some charges that are sent as its entries are judged, once there is room for
+-- the answers.
+module _ {C : Type 0} (K : Kind C) (S : Sending C) (h : Header) (letters : List ℕ) (entries : List Entry) (script : List Asking)
+    (left : List ℕ) (old new : List ScriptAnswer) where
+  pub record PlayedOn (handed : Strips K.group.Carrier) (answer : JudgeAnswer) : Type 0 where
+    pub charges : List C
+    pub sent : map S.entry charges ≡ entries
+    pub verdict : Result (Option (Break C)) Fault
+    pub finds : PlayFinds K S (preset_rule h letters) (preset_density K h charges) handed script (with_answers (length script) (length old) (preset_found K most_words most_shown h letters charges)) left old new verdict
+    pub told : answer ≡ told_of S verdict
+
+-- with strips of zeros for all but the cells
+abbrev pub PlayedClean : {C : Type 0} → Kind C → Sending C → Header → List ℕ → List Entry → List Asking → List ℕ → List ℕ → List ScriptAnswer → List ScriptAnswer → JudgeAnswer → Type 0
+PlayedClean K S h letters entries script cells left old new = PlayedOn K S h letters entries script left old new (clean K cells)
+
+-- of any kind
+abbrev pub PlayedAs : ChargeKind → Header → List ℕ → List Entry → List Asking → List ℕ → List ℕ → List ScriptAnswer → List ScriptAnswer → JudgeAnswer → Type 0
+PlayedAs Voices = PlayedClean voices voices_sending
+PlayedAs Pitch = PlayedClean pitch pitch_sending
+PlayedAs Channels = PlayedClean channels channels_sending
+PlayedAs Both = PlayedClean both both_sending
+
+-- of some bytes, by what reading them as a preset answers; a refusal writes nothing
+abbrev pub PlayTells : Result Preset Refusal → List Asking → List ℕ → List ℕ → List ScriptAnswer → List ScriptAnswer → JudgeAnswer → Type 0
+PlayTells (Ok p) = PlayedAs p.head.kind p.head.header p.letters p.entries
+PlayTells (Err f) = λ script cells left old new answer. (answer ≡ judge_answer (Err f)) × (left ≡ cells) × (new ≡ old)

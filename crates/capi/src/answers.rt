@@ -1,0 +1,184 @@
+// What the calls answer, as structs of numbers. Code 0 and place 0 are no refusal; numbers that an answer does not have
+// are 0.
+ghost use Rattle.std.specs.Prelude.{◌≡◌, Some, Err};
+ghost use Rattle.fault.specs.Answers.{plainly};
+ghost use Rattle.fault.specs.Refusals.{refusal};
+ghost use Rattle.player.specs.declared.call.Answer.TheVariants.{Reading as Reading_of};
+ghost use Rattle.preset_bench.specs.Finds.{sent_found};
+ghost use Rattle.capi.specs.Answers.{read_answer, unbroken, broken, judge_answer, unread, script_answer};
+
+use bench::Break;
+use fault::Fault;
+use player::{Answer, Reading};
+use preset::{Entry, Header, Sent};
+use preset_bench::sent_found;
+
+const NO_ENTRY: Entry = Entry {
+    signed: 0,
+    plain: 0,
+};
+
+const NO_HEADER: Header = Header {
+    kind: 0,
+    q: 0,
+    n: 0,
+    l: 0,
+    k: 0,
+};
+
+// What a call of a script was answered, as a number.
+const ANSWER_NONE: u32 = 0;
+
+const ANSWER_DONE: u32 = 1;
+
+const ANSWER_READING: u32 = 2;
+
+const ANSWER_REFUSED: u32 = 3;
+
+// The header of a preset that was read, or a refusal.
+#[derive(Clone, Copy)]
+#[repr(C)]
+pub struct ReadAnswer {
+    pub code: u32,
+    pub place: usize,
+    pub header: Header,
+}
+
+// A verdict, or a refusal. A break has the failing word's code, the length of the ring that shows it, and that ring's
+// totals before and after one step.
+#[derive(Clone, Copy)]
+#[repr(C)]
+pub struct JudgeAnswer {
+    pub code: u32,
+    pub breaks: bool,
+    pub place: usize,
+    pub word: usize,
+    pub len: usize,
+    pub before: Entry,
+    pub after: Entry,
+}
+
+// The answer to a call of a script: none, done, a reading of a site, or a refusal.
+#[derive(Clone, Copy)]
+#[repr(C)]
+pub struct ScriptAnswer {
+    pub answer: u32,
+    pub code: u32,
+    pub place: usize,
+    pub opening: Entry,
+    pub crossed: Entry,
+    pub touched: Entry,
+    pub now: Entry,
+}
+
+// What reading answers.
+pub(crate) fn read_answer(read: Result<Header, Fault>) -> ReadAnswer
+    ensures { result ≡ read_answer (plainly read) }
+{
+    match read {
+        Ok(header) => ReadAnswer {
+            code: 0,
+            place: 0,
+            header,
+        },
+        Err(fault) => ReadAnswer {
+            code: fault.stop.code() as u32,
+            place: fault.place,
+            header: NO_HEADER,
+        },
+    }
+}
+
+// The answer of a verdict without a break.
+fn unbroken(code: u32, place: usize) -> JudgeAnswer
+    ensures { result ≡ unbroken code place }
+{
+    JudgeAnswer {
+        code,
+        breaks: false,
+        place,
+        word: 0,
+        len: 0,
+        before: NO_ENTRY,
+        after: NO_ENTRY,
+    }
+}
+
+// The answer of a break.
+fn broken(found: Break<Entry>) -> JudgeAnswer
+    ensures { result ≡ broken found }
+{
+    JudgeAnswer {
+        code: 0,
+        breaks: true,
+        place: 0,
+        word: found.word,
+        len: found.len,
+        before: found.first,
+        after: found.second,
+    }
+}
+
+// The answer of a refusal.
+pub(crate) fn refused(fault: Fault) -> JudgeAnswer
+    ensures { result ≡ judge_answer (Err (refusal fault)) }
+{
+    unbroken(fault.stop.code() as u32, fault.place)
+}
+
+// What judging answers.
+pub(crate) fn judge_answer<C: Sent>(found: Result<Option<Break<C>>, Fault>) -> JudgeAnswer
+    ensures { result ≡ judge_answer (plainly (sent_found C.sending found)) }
+{
+    match sent_found(found) {
+        Ok(None) => unbroken(0, 0),
+        Ok(Some(found)) => broken(found),
+        Err(fault) => refused(fault),
+    }
+}
+
+// An answer with no reading.
+fn unread(answer: u32, code: u32, place: usize) -> ScriptAnswer
+    ensures { result ≡ unread answer code place }
+{
+    ScriptAnswer {
+        answer,
+        code,
+        place,
+        opening: NO_ENTRY,
+        crossed: NO_ENTRY,
+        touched: NO_ENTRY,
+        now: NO_ENTRY,
+    }
+}
+
+// The answer of a reading.
+fn read<C: Sent>(reading: Reading<C>) -> ScriptAnswer
+    ensures { result ≡ script_answer C.sending (Some (Reading_of reading)) }
+{
+    ScriptAnswer {
+        answer: ANSWER_READING,
+        code: 0,
+        place: 0,
+        opening: reading.opening.to_entry(),
+        crossed: reading.crossed.to_entry(),
+        touched: reading.touched.to_entry(),
+        now: reading.now.to_entry(),
+    }
+}
+
+// What a call of a script is answered.
+pub(crate) fn script_answer<C: Sent>(answer: Option<Answer<C>>) -> ScriptAnswer
+    ensures { result ≡ script_answer C.sending answer }
+{
+    match answer {
+        None => unread(ANSWER_NONE, 0, 0),
+        Some(Answer::Done) => unread(ANSWER_DONE, 0, 0),
+        Some(Answer::Reading(reading)) => read(reading),
+        Some(Answer::Refused(fault)) => unread(
+            ANSWER_REFUSED,
+            fault.stop.code() as u32,
+            fault.place,
+        ),
+    }
+}

@@ -1,0 +1,24 @@
+// Judging a preset.
+ghost use Rattle.preset.specs.Presets.{whole_preset};
+ghost use Rattle.capi.specs.Judging.{JudgeTells};
+
+use crate::answers::{JudgeAnswer, refused};
+use crate::judge_kinds::judge_kind;
+use preset::{Entry, Strips};
+
+// Judges the preset that the bytes are. In either verdict the crossings stand at the front of a strip afterwards, and on a
+// break the ring that shows it at the front of another. Strips too short are refused. A refusal writes nothing.
+#[unsafe(no_mangle)]
+pub extern "C" fn ringbench_judge(
+    bytes: &[u8],
+    crossings: &mut [Entry],
+    ring: &mut [u8],
+) -> JudgeAnswer
+    ensures { JudgeTells (whole_preset bytes.now) crossings.old crossings.new ring.old ring.new result }
+{
+    let mut strips = Strips::new();
+    match strips.read(bytes) {
+        Ok(preset) => judge_kind(preset, crossings, ring),
+        Err(fault) => refused(fault),
+    }
+}

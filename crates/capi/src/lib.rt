@@ -1,0 +1,20 @@
+// The judge and the player for C: a static library of a few calls on numbers, bytes and structs of numbers. Assumes
+// nothing of its caller but what a C type says; nothing here is on the heap.
+#![tactic(auto)]
+
+mod answers;
+mod judge_charges;
+mod judge_kinds;
+mod judge_preset;
+mod play_charges;
+mod play_kinds;
+mod play_preset;
+mod play_script;
+mod read_preset;
+mod script;
+
+pub use answers::{JudgeAnswer, ReadAnswer, ScriptAnswer};
+pub use judge_preset::ringbench_judge;
+pub use play_preset::ringbench_play;
+pub use read_preset::ringbench_read;
+pub use script::ScriptCall;

@@ -1,0 +1,59 @@
+// A script played on a bench that holds.
+ghost use Rattle.std.specs.Prelude.{◌≡◌, ◌≤◌, map, length};
+ghost use Rattle.std.specs.Option.{option_map};
+ghost use Rattle.player.specs.Answers.{strips, answered, open_cells, of_player};
+ghost use Rattle.capi.specs.Scripts.{asks, script_call, Obeys};
+ghost use Rattle.capi.specs.Playing.{Answered};
+
+use crate::answers::{ScriptAnswer, script_answer};
+use crate::script::ScriptCall;
+use automaton::{Density, Rule};
+use bench::Holding;
+use charge::Charge;
+use fault::Fault;
+use player::{Answer, Call, Player, PlayerOf, obey};
+use preset::Sent;
+
+// Answers what a struct asks.
+fn answer_one<C: Charge, R: Rule, D: Density<C>>(
+    player: PlayerOf<C, R, D>,
+    asked: Result<Option<Call<'_>>, Fault>,
+    cells: &mut [u8],
+    spare: &mut [u8],
+    opening: &mut [C],
+    crossed: &mut [C],
+    touched: &mut [C],
+) -> (PlayerOf<C, R, D>, Option<Answer<C>>)
+    ensures obeys { Obeys C.kind (R.meaning (of_player (λ h. h) (λ p. p.bench) player).parts.rule) (D.weights C.kind (of_player (λ h. h) (λ p. p.bench) player).parts.density) (open_cells (λ p. p.len) player) (strips C.kind cells.old spare.old opening.old crossed.old touched.old) (asks asked.entry) (option_map (answered C.kind) result.1) (strips C.kind cells.new spare.new opening.new crossed.new touched.new) (open_cells (λ p. p.len) result.0) }
+    ensures bench { of_player (λ h. h) (λ p. p.bench) result.0 ≡ of_player (λ h. h) (λ p. p.bench) player }
+{
+    match asked {
+        Ok(Some(call)) => obey(player, call, cells, spare, opening, crossed, touched),
+        Ok(None) => (player, None),
+        Err(fault) => (player, Some(Answer::Refused(fault))),
+    }
+}
+
+// Answers each struct of a script, in the order of the script.
+pub(crate) fn play_script<C: Sent, R: Rule + Drop, D: Density<C> + Drop>(
+    bench: Holding<C, R, D>,
+    script: &[ScriptCall],
+    rings: &[u8],
+    cells: &mut [u8],
+    spare: &mut [u8],
+    opening: &mut [C],
+    crossed: &mut [C],
+    touched: &mut [C],
+    answers: &mut [ScriptAnswer],
+)
+    requires { length script.now ≤ length answers.old }
+    ensures { Answered C.kind C.sending (R.meaning bench.parts.rule) (D.weights C.kind bench.parts.density) (strips C.kind cells.old spare.old opening.old crossed.old touched.old) (map (script_call rings.now) script.now) cells.new answers.old answers.new }
+{
+    let mut player = Player::Idle(bench);
+    for i in 0..script.len() {
+        let asked = script[i].asked(rings);
+        let (next, answer) = answer_one(player, asked, cells, spare, opening, crossed, touched);
+        player = next;
+        answers[i] = script_answer(answer);
+    }
+}

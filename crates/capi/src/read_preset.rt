@@ -1,0 +1,23 @@
+// Reading a preset.
+ghost use Rattle.std.specs.Prelude.{◌≡◌};
+ghost use Rattle.fault.specs.Answers.{strip_after};
+ghost use Rattle.preset.specs.Presets.{whole_reading, header_of};
+ghost use Rattle.capi.specs.Answers.{read_answer};
+
+use crate::answers::{ReadAnswer, read_answer};
+use preset::{Entry, read_whole};
+
+// Reads the preset that the bytes are to the front of two strips, which need room for the largest preset. A refusal
+// writes nothing.
+#[unsafe(no_mangle)]
+pub extern "C" fn ringbench_read(
+    bytes: &[u8],
+    letters: &mut [u8],
+    entries: &mut [Entry],
+) -> ReadAnswer
+    ensures answer { result ≡ read_answer (header_of (whole_reading letters.old entries.old bytes.now)) }
+    ensures letters { letters.new ≡ strip_after (λ p. p.letters) letters.old (whole_reading letters.old entries.old bytes.now) }
+    ensures entries { entries.new ≡ strip_after (λ p. p.entries) entries.old (whole_reading letters.old entries.old bytes.now) }
+{
+    read_answer(read_whole(bytes, letters, entries))
+}

@@ -1,0 +1,60 @@
+// The calls of a script from C.
+ghost use Rattle.std.specs.Prelude.{◌≡◌};
+ghost use Rattle.automaton.specs.Making.{lent};
+ghost use Rattle.capi.specs.Scripts.{ring_at, script_call, asks};
+
+use fault::{Fault, Stop};
+use player::Call;
+
+const OPEN: u32 = 1;
+
+const TOUCH: u32 = 2;
+
+const STEP: u32 = 3;
+
+const READ: u32 = 4;
+
+const CLOSE: u32 = 5;
+
+// A call: its number, and what it is given. Open takes `len` letters from index `at` of the letters of all rings on, touch
+// the site `at` and a letter, and read the site `at`.
+#[derive(Clone, Copy)]
+#[repr(C)]
+pub struct ScriptCall {
+    pub call: u32,
+    pub letter: u8,
+    pub at: usize,
+    pub len: usize,
+}
+
+// A ring from the letters of all rings.
+fn ring_at(letters: &[u8], at: usize, len: usize) -> Result<&[u8], Fault>
+    ensures { lent result ≡ ring_at letters.now at len }
+{
+    if at > letters.len() || len > letters.len() - at {
+        return Err(Stop::ShortStrip.at(0));
+    }
+    Ok(&letters[at..at + len])
+}
+
+impl ScriptCall {
+    // What is asked of the player, if the number is that of a call.
+    pub(crate) fn asked(self, letters: &[u8]) -> Result<Option<Call<'_>>, Fault>
+        ensures { asks result ≡ script_call letters.now self }
+    {
+        let ScriptCall {
+            call,
+            letter,
+            at: site,
+            len,
+        } = self;
+        match call {
+            OPEN => Ok(Some(Call::Open(ring_at(letters, site, len)?))),
+            TOUCH => Ok(Some(Call::Touch { site, letter })),
+            STEP => Ok(Some(Call::Step)),
+            READ => Ok(Some(Call::Read { site })),
+            CLOSE => Ok(Some(Call::Close)),
+            _ => Ok(None),
+        }
+    }
+}
