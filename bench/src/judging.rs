@@ -7,6 +7,13 @@ use ctest::library::{Entry, Header, JudgeAnswer};
 
 const MOST_SHOWN: usize = 23;
 
+/// How the crossings are filled and the words searched.
+#[derive(Clone, Copy)]
+pub enum Way {
+    Recurrences,
+    Formula,
+}
+
 /// A rule and a density by their tables, and the powers of q that part the words of their label.
 pub struct Bench<'a, C> {
     pub q: usize,
@@ -192,6 +199,7 @@ impl<'a, C: Charge> Bench<'a, C> {
 
     fn judge(
         &self,
+        way: Way,
         work: &mut [C],
         crossings: &mut [Entry],
         ring: &mut [u8],
@@ -200,7 +208,10 @@ impl<'a, C: Charge> Bench<'a, C> {
             return Err((12, 0));
         }
         let work = &mut work[..self.heads];
-        let found = self.search(work);
+        let found = match way {
+            Way::Recurrences => self.search(work),
+            Way::Formula => self.search_plainly(work),
+        };
         for (entry, charge) in crossings.iter_mut().zip(work.iter()) {
             *entry = charge.to_entry();
         }
@@ -208,7 +219,7 @@ impl<'a, C: Charge> Bench<'a, C> {
     }
 
     /// Each crossing by the labels of its fronts, each letter of each label asked anew, each power counted anew.
-    pub fn search_plainly(&self, crossings: &mut [C]) -> Option<usize> {
+    fn search_plainly(&self, crossings: &mut [C]) -> Option<usize> {
         let power = |len: usize| self.q.pow(len as u32);
         let label = |code: usize| {
             let next = (0..self.k).fold(0, |next, j| {
@@ -239,6 +250,7 @@ pub fn fill_charges<C: Charge>(entries: &[Entry], charges: &mut [C]) -> Result<(
 }
 
 fn judge_kind<C: Charge>(
+    way: Way,
     header: Header,
     letters: &[u8],
     entries: &[Entry],
@@ -248,10 +260,12 @@ fn judge_kind<C: Charge>(
     let mut charges = [C::ZERO; MOST_WORDS];
     let mut work = [C::ZERO; MOST_WORDS];
     fill_charges(entries, &mut charges)?;
-    Bench::new(header, letters, &charges[..entries.len()])?.judge(&mut work, crossings, ring)
+    let bench = Bench::new(header, letters, &charges[..entries.len()])?;
+    bench.judge(way, &mut work, crossings, ring)
 }
 
 fn judge_bytes(
+    way: Way,
     bytes: &[u8],
     crossings: &mut [Entry],
     ring: &mut [u8],
@@ -263,15 +277,15 @@ fn judge_bytes(
     let letters = &letters[..letter_count];
     let entries = &entries[..entry_count];
     match header.kind {
-        0 => judge_kind::<Voices>(header, letters, entries, crossings, ring),
-        1 => judge_kind::<Pitch>(header, letters, entries, crossings, ring),
-        2 => judge_kind::<Channels>(header, letters, entries, crossings, ring),
-        _ => judge_kind::<Both>(header, letters, entries, crossings, ring),
+        0 => judge_kind::<Voices>(way, header, letters, entries, crossings, ring),
+        1 => judge_kind::<Pitch>(way, header, letters, entries, crossings, ring),
+        2 => judge_kind::<Channels>(way, header, letters, entries, crossings, ring),
+        _ => judge_kind::<Both>(way, header, letters, entries, crossings, ring),
     }
 }
 
 /// A refusal as an answer.
-pub fn refused((code, place): Refusal) -> JudgeAnswer {
+fn refused((code, place): Refusal) -> JudgeAnswer {
     JudgeAnswer {
         code,
         place,
@@ -280,6 +294,6 @@ pub fn refused((code, place): Refusal) -> JudgeAnswer {
 }
 
 /// Judges the preset that the bytes are.
-pub fn judge(bytes: &[u8], crossings: &mut [Entry], ring: &mut [u8]) -> JudgeAnswer {
-    judge_bytes(bytes, crossings, ring).unwrap_or_else(refused)
+pub fn judge(way: Way, bytes: &[u8], crossings: &mut [Entry], ring: &mut [u8]) -> JudgeAnswer {
+    judge_bytes(way, bytes, crossings, ring).unwrap_or_else(refused)
 }

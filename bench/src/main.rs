@@ -7,13 +7,12 @@ mod judging;
 mod reading;
 mod stepping;
 
-use charges::{Charge, Voices};
 use ctest::draws::{any_preset, damaged};
 use ctest::format::{Kind, MOST_WORDS, Preset, preset_bytes};
 use ctest::judge::word;
 use ctest::library::{self, Entry, ReadAnswer, ScriptAnswer, ScriptCall};
 use ctest::random::Random;
-use judging::{Bench, fill_charges};
+use judging::Way;
 use std::hint::black_box;
 use std::time::Instant;
 
@@ -113,22 +112,16 @@ fn job(work: Work, side: Side, q: usize, n: usize, k: usize, times: usize) -> Bo
                 &mut letters,
             ));
         }),
-        (Work::Judge, Side::Rust) => Box::new(move || {
-            black_box(judging::judge(
-                black_box(&bytes),
-                &mut entries,
-                &mut letters,
-            ));
-        }),
-        (Work::Judge, Side::Plain) => Box::new(move || {
-            let mut charges = [Voices::ZERO; MOST_WORDS];
-            let mut crossings = [Voices::ZERO; MOST_WORDS];
-            let header = preset.header();
-            fill_charges(&preset.entries, &mut charges).unwrap();
-            let charges = &charges[..preset.entries.len()];
-            let bench = Bench::new(header, &preset.letters, charges).unwrap();
-            black_box(black_box(&bench).search_plainly(&mut crossings));
-        }),
+        (Work::Judge, _) => {
+            let way = match side {
+                Side::Plain => Way::Formula,
+                _ => Way::Recurrences,
+            };
+            Box::new(move || {
+                let bytes = black_box(&bytes);
+                black_box(judging::judge(way, bytes, &mut entries, &mut letters));
+            })
+        }
         (Work::Step, Side::Proved) => Box::new(move || {
             let bytes = black_box(&bytes);
             black_box(library::play(
@@ -197,8 +190,10 @@ fn compare_judges(random: &mut Random, bytes: &[u8]) -> bool {
     let mut ring = vec![9u8; ring_room];
     let (mut others, mut other_ring) = (crossings.clone(), ring.clone());
     let answer = library::judge(bytes, &mut crossings, &mut ring);
-    let other = judging::judge(bytes, &mut others, &mut other_ring);
-    assert_eq!((answer, crossings, ring), (other, others, other_ring));
+    let other = judging::judge(Way::Recurrences, bytes, &mut others, &mut other_ring);
+    assert_eq!((answer, &crossings, &ring), (other, &others, &other_ring));
+    let other = judging::judge(Way::Formula, bytes, &mut others, &mut other_ring);
+    assert_eq!((answer, &crossings, &ring), (other, &others, &other_ring));
     answer.code == 0 && !answer.breaks
 }
 
