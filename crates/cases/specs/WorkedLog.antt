@@ -1,11 +1,9 @@
 -- Rule 184 under the density that counts letters, opened on 1100, stepped, read and touched, with refused calls in between. Assumes nothing.
-use Rattle.std.specs.Prelude.{◌≡◌, ℕ, ◌^◌, List, [], ◌∷◌, map, Ok}
-use Rattle.std.proofs.Common.{lit<}
+use Rattle.std.specs.Prelude.{◌≡◌, ℕ, List, [], ◌∷◌, ◌++◌, map, Ok}
 use Rattle.fault.specs.declared.Stop.TheVariants.{BadLength, ShortStrip, BadPosition, BadLetter}
 use Rattle.fault.specs.Refusals.{refused_at}
-use Rattle.charge.specs.Residues.{Below, residue}
 use Rattle.charge.specs.Kinds.{voices}
-use Rattle.automaton.specs.Meanings.{Local, Weights, Lawful, Weighed}
+use Rattle.automaton.specs.Meanings.{Lawful, Weighed}
 use Rattle.bench.specs.Laws.{KeepsTotal}
 use Rattle.bench.specs.Verdicts.{bench_checked}
 use Rattle.player.specs.Calls.{Call, Answer, Strips}
@@ -13,20 +11,7 @@ use Rattle.player.specs.Calls.Call.{opens, touches, steps, reads, closes}
 use Rattle.player.specs.Calls.Answer.{done, reading, refused}
 use Rattle.player.specs.Logs.{Line, Log, OnEveryLine, WithoutGaps, LineTrue}
 use Rattle.player.specs.Logs.Log.{made, ◌then◌}
-
--- what a number of voices means
-abbrev pub Count : Type 0
-Count = Below (2 ^ 64)
-
-abbrev pub count : ℕ → Count
-count n = residue (2 ^ 64) (lit< tt) n
-
-abbrev pub rule_184 : Local
-rule_184 = record { q = 2; n = 3; l = 1; answers = 0 ∷ 0 ∷ 0 ∷ 1 ∷ 1 ∷ 1 ∷ 0 ∷ 1 ∷ [] }
-
--- letter a weighs a voices
-abbrev pub letter_count : Weights Count
-letter_count = record { q = 2; k = 1; charges = map count (0 ∷ 1 ∷ []) }
+use Rattle.cases.specs.Examples.{Count, count, elementary, letter_count}
 
 -- strips that are longer than the ring, with something past its end
 abbrev pub blank : Strips Count
@@ -47,9 +32,10 @@ after_open = record {
   touched = map count (0 ∷ 0 ∷ 0 ∷ 0 ∷ 3 ∷ []);
 }
 
-abbrev pub after_step : Strips Count
-after_step = record {
-  cells = 1 ∷ 0 ∷ 1 ∷ 0 ∷ 7 ∷ [];
+-- by the ring that the step makes
+abbrev pub after_step : List ℕ → Strips Count
+after_step ring = record {
+  cells = ring ++ (7 ∷ []);
   spare = 1 ∷ 1 ∷ 0 ∷ 0 ∷ 6 ∷ [];
   opening = map count (1 ∷ 1 ∷ 0 ∷ 0 ∷ 4 ∷ []);
   crossed = map count (0 ∷ 0 ∷ 1 ∷ 0 ∷ []);
@@ -95,30 +81,33 @@ line call handed said left = record { call = call; handed = handed; got = record
 abbrev pub counts : ℕ → ℕ → ℕ → ℕ → Answer Count
 counts o c t n = reading (count o) (count c) (count t) (count n)
 
-abbrev pub log_184 : Log Count
-log_184 =
+-- The log of a session, by the ring that its step makes and what is read: at sites 1 and 2 after the step, and at
+-- site 1 after the touch.
+abbrev pub session : List ℕ → Answer Count → Answer Count → Answer Count → Log Count
+session ring read_1 read_2 read_touched =
     made
     then line (opens (1 ∷ 2 ∷ 0 ∷ 0 ∷ [])) blank (refused (refused_at BadLetter 1)) blank
     then line (opens []) blank (refused (refused_at BadLength 0)) blank
     then line (opens (1 ∷ 1 ∷ 0 ∷ 0 ∷ [])) blank done after_open
-    then line steps after_open done after_step
-    then line (reads 1) after_step (counts 1 0 0 0) after_step
-    then line (reads 2) after_step (counts 0 1 0 1) after_step
-    then line (reads 4) after_step (refused (refused_at BadPosition 0)) after_step
-    then line (touches 1 2) after_step (refused (refused_at BadLetter 4)) after_step
+    then line steps after_open done (after_step ring)
+    then line (reads 1) (after_step ring) read_1 (after_step ring)
+    then line (reads 2) (after_step ring) read_2 (after_step ring)
+    then line (reads 4) (after_step ring) (refused (refused_at BadPosition 0)) (after_step ring)
+    then line (touches 1 2) (after_step ring) (refused (refused_at BadLetter 4)) (after_step ring)
     then line (touches 1 1) (touch_only (1 ∷ 2 ∷ []) []) (refused (refused_at ShortStrip 0)) (touch_only (1 ∷ 2 ∷ []) [])
     then line (touches 1 1) (touch_only (1 ∷ 0 ∷ 1 ∷ 0 ∷ []) (0 ∷ 0 ∷ 0 ∷ 0 ∷ [])) done (touch_only (1 ∷ 1 ∷ 1 ∷ 0 ∷ []) (0 ∷ 1 ∷ 0 ∷ 0 ∷ []))
-    then line (reads 1) after_touch (counts 1 0 1 1) after_touch
+    then line (reads 1) after_touch read_touched after_touch
     then line closes blank done blank
     then line (opens (1 ∷ [])) blank done after_open_one
     then line steps after_open_one done after_step_one
     then line (reads 0) after_step_one (counts 1 0 0 1) after_step_one
 
--- the rule and the density make a bench that holds, the log has no gaps, and so each of its lines is true
-pub record WorkedLog : Type 0 where
-  pub lawful : Lawful rule_184
+-- Rule 184 and the density that counts letters make a bench that holds, a log of it has no gaps, and so each of its
+-- lines is true.
+pub record WorkedLog (log : Log Count) : Type 0 where
+  pub lawful : Lawful (elementary 184)
   pub weighed : Weighed letter_count
-  pub bench : bench_checked rule_184 letter_count ≡ Ok tt
-  pub keeps : KeepsTotal voices.group rule_184 letter_count
-  pub no_gaps : WithoutGaps voices rule_184 letter_count log_184
-  pub lines : OnEveryLine (LineTrue voices rule_184 letter_count) log_184
+  pub bench : bench_checked (elementary 184) letter_count ≡ Ok tt
+  pub keeps : KeepsTotal voices.group (elementary 184) letter_count
+  pub no_gaps : WithoutGaps voices (elementary 184) letter_count log
+  pub lines : OnEveryLine (LineTrue voices (elementary 184) letter_count) log

@@ -6,7 +6,7 @@ use Rattle.fault.specs.Answers.{and_then}
 use Rattle.preset.specs.declared.entry.Entry.{Entry}
 use Rattle.preset.specs.declared.header.Header.{Header}
 use Rattle.console.specs.Forms.{letter, entry}
-use Rattle.console.specs.Rows.{Reading, kind_row, number_row, items_row, ending}
+use Rattle.console.specs.Rows.{Row, Reading, kind_row, number_row, items_row, ending}
 use Rattle.console.specs.Words.{Place}
 use Rattle.console.specs.declared.draft.Draft.{Draft}
 use Rattle.console.specs.declared.error.Expected.TheVariants as expected
@@ -24,25 +24,44 @@ pub record Content : Type 0 where
 abbrev pub content : Draft → Content
 content d = record { kind = d.kind; header = d.header; letters = vec_items d.letters; entries = vec_items d.entries; lines = d.lines }
 
+-- the lines of the kind and the sizes
+pub record Sizes : Type 0 where
+  pub kind : Row ChargeKind
+  pub q : Row ℕ
+  pub n : Row ℕ
+  pub l : Row ℕ
+  pub k : Row ℕ
+
 -- one part after another
-abbrev pub parsed_at : Place → Reading Content
-parsed_at start =
+abbrev pub sizes_at : Place → Reading Sizes
+sizes_at start =
     and_then (kind_row start) (λ kind.
     and_then (number_row Letters kind.after) (λ q.
     and_then (number_row Window q.after) (λ n.
     and_then (number_row Reach n.after) (λ l.
     and_then (number_row Width l.after) (λ k.
-    and_then (items_row letter expected.Letter Rule k.after) (λ rule.
-    and_then (items_row (entry kind.value) expected.Entry Density rule.after) (λ density.
+    Ok (record { kind = kind; q = q; n = n; l = l; k = k }))))))
+
+abbrev pub parsed_at : Place → Reading Content
+parsed_at start =
+    and_then (sizes_at start) (λ s.
+    and_then (items_row letter expected.Letter Rule s.k.after) (λ rule.
+    and_then (items_row (entry s.kind.value) expected.Entry Density rule.after) (λ density.
     and_then (ending density.after) (λ _.
     Ok (record {
-      kind = kind.value;
-      header = record { kind = number_of kind.value; q = q.value; n = n.value; l = l.value; k = k.value };
+      kind = s.kind.value;
+      header = record { kind = number_of s.kind.value; q = s.q.value; n = s.n.value; l = s.l.value; k = s.k.value };
       letters = rule.value;
       entries = density.value;
-      lines = record { kind = kind.line; letters = q.line; window = n.line; reach = l.line; width = k.line; rule = rule.line; density = density.line };
-    })))))))))
+      lines = record { kind = s.kind.line; letters = s.q.line; window = s.n.line; reach = s.l.line; width = s.k.line; rule = rule.line; density = density.line };
+    })))))
 
 -- the text from its first line on
+abbrev pub text_start : List ℕ → Place
+text_start text = record { passed = 0; text = text }
+
+abbrev pub sizes_parsed : List ℕ → Reading Sizes
+sizes_parsed text = sizes_at (text_start text)
+
 abbrev pub parsed : List ℕ → Reading Content
-parsed text = parsed_at (record { passed = 0; text = text })
+parsed text = parsed_at (text_start text)

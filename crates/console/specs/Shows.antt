@@ -26,3 +26,9 @@ abbrev pub unless_memory : {X : Type 0} → Result X ShowError → Option (Resul
 unless_memory (Ok x) = Some (Ok x)
 unless_memory (Err (Refused f)) = Some (Err f)
 unless_memory (Err Memory) = None
+
+-- the numbers of the refusal that is told, if one is
+abbrev pub refusal_told : {X : Type 0} → Result X ShowError → Option Refusal
+refusal_told (Ok x) = None
+refusal_told (Err (Refused f)) = Some (refusal f)
+refusal_told (Err Memory) = None

@@ -1,5 +1,5 @@
 -- Lines and words of a text. Assumes nothing.
-use Rattle.std.specs.Prelude.{ℕ, ◌+◌, Bool, cond, not, ◌||◌, List, [], ◌∷◌, take, drop, Some as Found, None, Option, ◌==◌}
+use Rattle.std.specs.Prelude.{ℕ, ◌+◌, Bool, cond, not, ◌||◌, List, [], ◌∷◌, take, drop, Some, None, Option, ◌==◌}
 use Rattle.std.specs.List.{prefix_len}
 use Rattle.console.specs.declared.words.Class.{Class}
 use Rattle.console.specs.declared.words.Class.TheVariants.{Blank, NotBlank, NotNewline, NotColon}
@@ -51,7 +51,7 @@ words_left ws = words ws.line.now
 -- the words of a line that was split after its first word, if it has one
 abbrev pub rejoined : Option Split → List (List ℕ)
 rejoined None = []
-rejoined (Found s) = s.front.now ∷ words s.rest.now
+rejoined (Some s) = s.front.now ∷ words s.rest.now
 
 -- A place in a text: how many lines end before it, and the text from there on.
 pub record Place : Type 0 where

@@ -1,7 +1,7 @@
 // A page turned into a preset's bytes.
-ghost use Rattle.std.specs.Prelude.{◌≡◌, Some, vec_items};
-ghost use Rattle.console.specs.Encodes.{answered, Answered, miscounted, counts_tested, bytes_of, encoded, encode_sentence};
-ghost use Rattle.console.specs.Grammar.{content};
+ghost use Rattle.std.specs.Prelude.{◌≡◌, Some, Err, IfErr, vec_items};
+ghost use Rattle.console.specs.Encodes.{answered, Answered, from_text, miscounted, counts_tested, bytes_of, encoded, encode_sentence};
+ghost use Rattle.console.specs.Grammar.{content, sizes_parsed};
 ghost use Rattle.console.specs.declared.encode.EncodeError.TheVariants.{Text};
 ghost use Rattle.console.specs.declared.error.TextError.TheVariants.{Memory};
 
@@ -75,7 +75,9 @@ fn encode_draft(alloc: Global, draft: &Draft) -> Result<Vec<u8>, EncodeError>
 
 // The bytes of the preset that a text writes.
 pub fn encode_page(alloc: Global, text: &[u8]) -> Result<Vec<u8>, EncodeError>
-    ensures { Answered (answered vec_items result) (encoded text.now) }
+    ensures bytes { Answered (answered vec_items result) (encoded text.now) }
+    // No memory is needed to tell what is wrong with the kind or the sizes.
+    ensures sizes { IfErr (sizes_parsed text.now) (λ e. answered vec_items result ≡ from_text (Err e)) }
 {
     let draft = parse(alloc, text)?;
     encode_draft(alloc, &draft)

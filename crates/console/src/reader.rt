@@ -1,7 +1,7 @@
 // A page that is read.
-ghost use Rattle.std.specs.Prelude.{◌≡◌, vec_items};
+ghost use Rattle.std.specs.Prelude.{◌≡◌, Err, IfErr, vec_items};
 ghost use Rattle.std.specs.Option.{ok_or};
-ghost use Rattle.console.specs.Grammar.{content, parsed};
+ghost use Rattle.console.specs.Grammar.{content, parsed, sizes_parsed};
 ghost use Rattle.console.specs.Rows.{read, Told, each};
 ghost use Rattle.console.specs.Words.{words_left};
 ghost use Rattle.console.specs.declared.error.TextError.TheVariants.{Wrong};
@@ -45,7 +45,9 @@ fn read_items<T: Item>(
 
 // Reads a page. The numbers of the header and the counts of letters and entries are not checked.
 pub fn parse(alloc: Global, text: &[u8]) -> Result<Draft, TextError>
-    ensures { Told (read content result) (parsed text.now) }
+    ensures draft { Told (read content result) (parsed text.now) }
+    // No memory is needed to tell what is wrong with the kind or the sizes.
+    ensures sizes { IfErr (sizes_parsed text.now) (λ e. read content result ≡ Err e) }
 {
     let kind = read_kind_row(Place { passed: 0, text })?;
     let q = read_number_row(Part::Letters, kind.after)?;

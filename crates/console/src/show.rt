@@ -1,7 +1,7 @@
 // A preset's bytes shown as a page.
-ghost use Rattle.std.specs.Prelude.{◌≡◌, IfSome, string_bytes};
+ghost use Rattle.std.specs.Prelude.{◌≡◌, Some, IfSome, IfErr, string_bytes};
 ghost use Rattle.console.specs.Encodes.{ShownEncodesBack};
-ghost use Rattle.console.specs.Shows.{shown, told, unless_memory};
+ghost use Rattle.console.specs.Shows.{shown, told, unless_memory, refusal_told};
 ghost use Rattle.console.specs.declared.failure.ShowError.TheVariants.{Memory, Refused};
 
 use crate::failure::ShowError;
@@ -13,6 +13,8 @@ use std::alloc::Global;
 #[tactic(auto, using(crate::proofs::ShownBack::shown_encodes_back))]
 pub fn show_preset(alloc: Global, input: &[u8]) -> Result<String, ShowError>
     ensures page { IfSome (unless_memory result) (λ s. told string_bytes s ≡ shown input.now) }
+    // No memory is needed to tell a refusal.
+    ensures refused { IfErr (shown input.now) (λ f. refusal_told result ≡ Some f) }
     ensures encodes_back { ShownEncodesBack }
 {
     let mut strips = Strips::new();

@@ -89,7 +89,8 @@ impl fmt::Display for Fault {
     fn fmt<W: fmt::Write>(&self, f: &mut fmt::Formatter<W>) -> fmt::Result {
         let code = self.stop.code();
         let place = self.place;
+        write!(f, "Refused with code {code} at place {place}: ")?;
         let reason = self.stop.reason();
-        write!(f, "Refused with code {code} at place {place}: {reason}.")
+        write!(f, "{reason}.")
     }
 }

@@ -7,7 +7,7 @@ use Rattle.std.proofs.ByRecursion.{All-take}
 use Rattle.std.proofs.lemmas.List.{length-map, length_push, map_push, take_at, drop_at, take_all, take-take, take_more, take-append-drop, length-take-le, drop_more}
 use Rattle.std.proofs.lemmas.Bool.{cases_Bool, or_cases, or_parts, and_parts}
 use Rattle.std.proofs.lemmas.Bool.Decides.{nat_tests, leb_tells}
-use Rattle.std.specs.Int.Digits.{digits_of as digits, number_from_digits_after, number_from_digits as number_of, AllBelowBase}
+use Rattle.std.specs.Int.Digits.{digits_of as digits, number_from_digits_after, number_from_digits, AllBelowBase}
 use Rattle.std.specs.List.{AllByRecursion}
 use Rattle.fault.specs.declared.Stop.TheVariants.{CutShort, Misspelt}
 use Rattle.fault.specs.Refusals.{refused_at}
@@ -74,7 +74,7 @@ tops_of [] = tt
 tops_of (d ∷ ds) = (omega arith, tops_of ds)
 
 value_last : (hs : List ℕ) (r : ℕ) → value (hs ++ (r ∷ [])) ≡ value hs * 128 + r % 128
-value_last hs r = ap (number_of 128) (map_push (λ b. b % 128) hs r) ∙ number_push 128 (map (λ b. b % 128) hs) (r % 128)
+value_last hs r = ap (number_from_digits 128) (map_push (λ b. b % 128) hs r) ∙ number_push 128 (map (λ b. b % 128) hs) (r % 128)
 
 -- the first byte of a spelling is not 80 hexadecimal
 lead : (ds : List ℕ) (r : ℕ) (rest : List ℕ) → r < 128 → (0 < length ds → 0 < get_or ds 0 0) → get_or (map (λ d. 128 + d) ds ++ (r ∷ rest)) 0 0 ≡ 128 → ⊥
@@ -96,7 +96,7 @@ number_reads_back place v rest small =
     let size : length hs ≡ length ds = length-map ds (λ d. 128 + d) in
     let led = lead ds r rest rl (λ s. first_digits_of 128 high (omega arith) (some-digits high s)) in
     let t = tops_last hs r rest (tops_of ds) rl in
-    let whole : value hs ≡ high = ap (number_of 128) (groups_of ds (all_below_base_digits_of 128 high (omega arith))) ∙ number_digits_of 128 high (omega arith) in
+    let whole : value hs ≡ high = ap (number_from_digits 128) (groups_of ds (all_below_base_digits_of 128 high (omega arith))) ∙ number_digits_of 128 high (omega arith) in
     let low : r % 128 ≡ r = omega arith in
     let v-is : value (take (length hs + 1) (hs ++ (r ∷ rest))) ≡ v = ap value (take_last hs r rest) ∙ (value_last hs r ∙ omega (arith, div-add-mod' v 128)) in
     let is = number_is place (hs ++ (r ∷ rest)) led (omega arith) (length hs) t (longer hs r rest) (omega arith) in
@@ -146,7 +146,7 @@ digits_after h (d ∷ ds) k u =
     cc
 
 -- the digits of a number that does not begin with 0
-digits_of : (ds : List ℕ) → AllBelowBase 128 ds → (0 < length ds → 0 < get_or ds 0 0) → digits 128 (number_of 128 ds) ≡ ds
+digits_of : (ds : List ℕ) → AllBelowBase 128 ds → (0 < length ds → 0 < get_or ds 0 0) → digits 128 (number_from_digits 128 ds) ≡ ds
 digits_of [] u k = refl
 digits_of (d ∷ ds) u k =
     let z : 0 * 128 + d ≡ d = omega arith in
@@ -180,9 +180,9 @@ spelt-so hs r ys u k h n =
     let ds = map (λ b. b % 128) hs in
     let low : r % 128 ≡ r = omega arith in
     let v = value_last hs r in
-    let v' : value (hs ++ (r ∷ [])) ≡ number_of 128 ds * 128 + r = omega arith in
-    let q : value (hs ++ (r ∷ [])) / 128 ≡ number_of 128 ds = ap (λ (m : ℕ). m / 128) v' ∙ div-mul-add (number_of 128 ds) 128 r h in
-    let m : value (hs ++ (r ∷ [])) % 128 ≡ r = ap (λ (m : ℕ). m % 128) v' ∙ mod-mul-add (number_of 128 ds) 128 r h in
+    let v' : value (hs ++ (r ∷ [])) ≡ number_from_digits 128 ds * 128 + r = omega arith in
+    let q : value (hs ++ (r ∷ [])) / 128 ≡ number_from_digits 128 ds = ap (λ (m : ℕ). m / 128) v' ∙ div-mul-add (number_from_digits 128 ds) 128 r h in
+    let m : value (hs ++ (r ∷ [])) % 128 ≡ r = ap (λ (m : ℕ). m % 128) v' ∙ mod-mul-add (number_from_digits 128 ds) 128 r h in
     let d = digits_of ds (under_groups hs) (leads hs ys u k n) in
     let t = tops_are hs u k in
     rw (q, m, d, t)

@@ -3,7 +3,7 @@ use Rattle.std.proofs.Common.{◌≡◌, ℕ, suc, ◌+◌, ◌-◌, ◌*◌, �
 use Rattle.std.proofs.lemmas.Int.Digits.{number_push}
 use Rattle.std.proofs.lemmas.List.{map_more, at_drop_more, take_rest, drop-drop, get_or-drop, nil_from_length}
 use Rattle.std.proofs.lemmas.Bool.Decides.{nat_tests}
-use Rattle.std.specs.Int.Digits.{number_from_digits as number_of}
+use Rattle.std.specs.Int.Digits.{number_from_digits}
 use Rattle.fault.specs.declared.Stop.TheVariants.{CutShort, Misspelt}
 use Rattle.fault.specs.Refusals.{refused_at}
 use Rattle.preset.specs.Answers.{Answer}
@@ -11,7 +11,7 @@ use Rattle.preset.specs.Numbers.{number_limit, most_bytes, tops, value, number}
 
 -- one group more
 pub value_more : (bs : List ℕ) (i : ℕ) → i < length bs → value (take (i + 1) bs) ≡ value (take i bs) * 128 + get_or bs i 0 % 128
-value_more bs i h = ap (number_of 128) (map_more (λ b. b % 128) bs i 0 h) ∙ number_push 128 (map (λ b. b % 128) (take i bs)) (get_or bs i 0 % 128)
+value_more bs i h = ap (number_from_digits 128) (map_more (λ b. b % 128) bs i 0 h) ∙ number_push 128 (map (λ b. b % 128) (take i bs)) (get_or bs i 0 % 128)
 
 -- one group more is seven bits more
 pub roof_more : (i : ℕ) → 2 ^ (7 * (i + 1)) ≡ 128 * 2 ^ (7 * i)

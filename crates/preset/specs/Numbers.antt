@@ -1,7 +1,7 @@
 -- How a number is spelt and read: groups of seven bits, the highest first, each but the last in a byte with
 -- its top bit set. Assumes nothing.
-use Rattle.std.specs.Prelude.{◌≡◌, ℕ, suc, ◌+◌, ◌/◌, ◌%◌, ◌<◌, ◌≤◌, Bool, cond, ◌&&◌, ◌||◌, List, [], ◌∷◌, ◌++◌, map, length, take, drop, Ok, Err, Result, ◌==◌, nat_le, nat_lt, slice_index, slice_index_or}
-use Rattle.std.specs.Int.Digits.{digits_of, number_from_digits as number_of}
+use Rattle.std.specs.Prelude.{◌≡◌, ◌↔◌, ℕ, suc, ◌+◌, ◌/◌, ◌%◌, ◌<◌, ◌≤◌, Bool, cond, ◌&&◌, ◌||◌, List, [], ◌∷◌, ◌++◌, map, length, take, drop, Ok, Err, Result, ◌==◌, nat_le, nat_lt, slice_index, slice_index_or}
+use Rattle.std.specs.Int.Digits.{digits_of, number_from_digits}
 use Rattle.std.specs.List.{AllByRecursion}
 use Rattle.fault.specs.declared.Stop.TheVariants.{CutShort, Misspelt, ShortStrip}
 use Rattle.fault.specs.Refusals.{Refusal, refused_at}
@@ -31,7 +31,7 @@ tops (b ∷ bs) = cond (nat_lt b 128) 0 (suc (tops bs))
 
 -- the value of the groups that some bytes hold
 abbrev pub value : List ℕ → ℕ
-value bs = number_of 128 (map (λ b. b % 128) bs)
+value bs = number_from_digits 128 (map (λ b. b % 128) bs)
 
 -- a byte with its top bit clear ends the number
 abbrev pub finished : List ℕ → Bool
@@ -68,16 +68,12 @@ pub data Misspelling (bs : List ℕ) : Type 0 where
   -- the finished value is over the limit
   large : (front : List ℕ) (last : ℕ) (rest : List ℕ) → bs ≡ front ++ (last ∷ rest) → AllByRecursion (λ b. 128 ≤ b) front → last < 128 → number_limit < value (front ++ (last ∷ [])) → Misspelling bs
 
--- one statement exactly when another
-abbrev pub Exactly : Type 0 → Type 0 → Type 0
-Exactly P Q = (P → Q) × (Q → P)
-
 -- which bytes are refused as a number, and how
 abbrev pub NumberRefusals : Type 0
 NumberRefusals =
     (place : ℕ) (bs : List ℕ)
-    → Exactly (number place bs ≡ Err (refused_at CutShort place)) (IsCutShort bs)
-    × Exactly (number place bs ≡ Err (refused_at Misspelt place)) (Misspelling bs)
+    → ((number place bs ≡ Err (refused_at CutShort place)) ↔ IsCutShort bs)
+    × ((number place bs ≡ Err (refused_at Misspelt place)) ↔ Misspelling bs)
 
 -- what is spelt is read, and the bytes after it are handed on
 abbrev pub NumberReadsBack : Type 0

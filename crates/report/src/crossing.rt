@@ -1,7 +1,7 @@
 // The crossings of a preset, as a page.
-ghost use Rattle.std.specs.Prelude.{◌≡◌, ◌^◌, ◌≤◌, length, take, IfOk, IfSome};
+ghost use Rattle.std.specs.Prelude.{◌≡◌, ◌^◌, ◌≤◌, length, take, Some, IfOk, IfErr, IfSome};
 ghost use Rattle.preset.specs.Presets.{whole_preset};
-ghost use Rattle.console.specs.Shows.{unless_memory};
+ghost use Rattle.console.specs.Shows.{unless_memory, refusal_told};
 ghost use Rattle.report.specs.Lines.{LineIs};
 ghost use Rattle.report.specs.Finds.{answer_good};
 ghost use Rattle.report.specs.Texts.{row_text, rows_text, shape_of};
@@ -72,7 +72,9 @@ fn cross_kind(alloc: Global, preset: Loaded<'_>) -> Result<Line, ShowError>
 
 // What crosses at each word, a line each, of the preset that the bytes are.
 pub fn crossings_page(alloc: Global, input: &[u8]) -> Result<Line, ShowError>
-    ensures { IfSome (unless_memory result) (CrossingsTell (whole_preset input.now)) }
+    ensures page { IfSome (unless_memory result) (CrossingsTell (whole_preset input.now)) }
+    // No memory is needed to tell a refusal.
+    ensures refused { IfErr (whole_preset input.now) (λ f. refusal_told result ≡ Some f) }
 {
     let mut strips = Strips::new();
     let preset = strips.read(input)?;
