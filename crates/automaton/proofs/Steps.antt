@@ -1,6 +1,6 @@
 -- The cells of a ring after one step, and the windows that a total sums over. Assumes nothing.
 use Rattle.std.proofs.Common.{◌≡◌, ℕ, zero, suc, ◌+◌, ◌-◌, ◌*◌, ◌<◌, ◌≤◌, List, [], ◌∷◌, length, get_or, ap, ◌∙◌, suc-mul, mul_comm, mul-zero, arith}
-use Rattle.charge.specs.Groups.{Group, sum}
+use Rattle.charge.specs.Groups.{Group, sum_over}
 use Rattle.charge.proofs.Sums.{sum_same}
 use Rattle.automaton.specs.Words.{Letters, Word, code, window, cell, before}
 use Rattle.automaton.specs.Meanings.{Local, Weights, answer, weight, next, site, booking_offset, total}
@@ -50,5 +50,5 @@ module _ (G : Group) (d : Weights G.Carrier) (c : List ℕ) where
   pub site-window : (i : ℕ) → site G booking_offset d c i ≡ weight G d (window d.k (cell c) i)
   site-window i = ap (λ t. weight G d (window d.k (cell c) t)) (omega (arith, mul-zero (length c - 1)))
 
-  pub total_windows : total G d c ≡ sum G (λ i. weight G d (window d.k (cell c) i)) (length c)
+  pub total_windows : total G d c ≡ sum_over G (λ i. weight G d (window d.k (cell c) i)) (length c)
   total_windows = sum_same G (site G booking_offset d c) (λ i. weight G d (window d.k (cell c) i)) (length c) (λ i _. site-window i)

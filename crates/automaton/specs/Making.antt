@@ -35,9 +35,6 @@ letter_sum (a ∷ w) = a + letter_sum w
 abbrev pub by_sum : ℕ → ℕ → ℕ → ℕ
 by_sum q n c = letter_sum (word q n c)
 
-abbrev pub sum_rule : ℕ → ℕ → ℕ → List ℕ → Local
-sum_rule = lookup_rule by_sum
-
 -- how many sums n letters have
 abbrev pub sum_count : ℕ → ℕ → ℕ
 sum_count q n = n * (q - 1) + 1

@@ -1,7 +1,7 @@
 -- What rules and densities mean, by words and on rings. Assumes nothing.
 use Rattle.std.specs.Prelude.{◌≡◌, ℕ, ◌^◌, ◌<◌, ◌≤◌, List, length, slice_index, slice_index_or}
 use Rattle.fault.specs.Limits.{least_letters, most_letters, most_window, most_width, most_words}
-use Rattle.charge.specs.Groups.{Group, sum}
+use Rattle.charge.specs.Groups.{Group, sum_over}
 use Rattle.automaton.specs.Words.{Letters, code, window, table, cell, before}
 
 -- A rule: q letters, a window of n cells of which l stand before the cell itself, and an answer for each word of
@@ -61,4 +61,4 @@ booking_offset = 0
 
 -- the total of a ring is the sum over its sites
 abbrev pub total : (G : Group) → Weights G.Carrier → List ℕ → G.Carrier
-total G d c = sum G (site G booking_offset d c) (length c)
+total G d c = sum_over G (site G booking_offset d c) (length c)

@@ -1,6 +1,6 @@
 -- The labels sum to what a step changes and to what two densities differ by. Assumes nothing.
 use Rattle.std.proofs.Common.{◌≡◌, ℕ, ◌+◌, ◌-◌, ◌<◌, ◌≤◌, max, List, length, take, drop, sym, ap, ◌∙◌, ap₂, arith}
-use Rattle.charge.specs.Groups.{Group, minus, sum}
+use Rattle.charge.specs.Groups.{Group, minus, sum_over}
 use Rattle.charge.proofs.Sums.{sum_same, sum-minus, sum_turn}
 use Rattle.automaton.specs.Words.{window, cell}
 use Rattle.automaton.specs.Meanings.{Local, Weights, answer, weight, next, total}
@@ -58,7 +58,7 @@ module _ (G : Group) where
       ∙ ap₂ (minus G)
       (sum_turn G new (length c)
       (λ i. ap (λ t. new (i + t)) (sym size) ∙ ap (weight G d) (window_turn d.k (cell c') (length c') (cell_turn c') i)) r.l
-      ∙ ap (sum G new) (sym size)
+      ∙ ap (sum_over G new) (sym size)
       ∙ sym (total_windows G d c'))
       (sum_turn G old (length c) (λ i. ap (weight G d) (window_turn d.k (cell c) (length c) (cell_turn c) i)) r.l
       ∙ sym (total_windows G d c))

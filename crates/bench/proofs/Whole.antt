@@ -3,7 +3,7 @@ use Rattle.std.proofs.Common.{◌≡◌, ℕ, zero, suc, ◌+◌, ◌-◌, ◌*�
 use mathlib.Core.Path.{fun_ext}
 use lib.ListN.{get_or-map}
 use Rattle.std.proofs.lemmas.Int.{ints}
-use Rattle.charge.specs.Groups.{minus, sum}
+use Rattle.charge.specs.Groups.{minus, sum_over}
 use Rattle.charge.specs.Kinds.{voice_group, voice_means, signed}
 use Rattle.charge.specs.Residues.{Below}
 use Rattle.charge.proofs.Sums.{sum_same}
@@ -25,9 +25,9 @@ nat_abs-add : (x y : ℤ) → nat_abs (x +ℤ y) ≤ nat_abs x + nat_abs y
 nat_abs-add x y = omega (arith, ints)
 
 -- sums, differences and crossings of whole numbers mean those of their meanings
-means-sum : (f : ℕ → ℤ) (n : ℕ) → voice_means (sum integers f n) ≡ sum voice_group (λ i. voice_means (f i)) n
+means-sum : (f : ℕ → ℤ) (n : ℕ) → voice_means (sum_over integers f n) ≡ sum_over voice_group (λ i. voice_means (f i)) n
 means-sum f zero = means-zero
-means-sum f (suc n) = means-add (sum integers f n) (f n) ∙ ap (λ x. voice_group.add x (voice_means (f n))) (means-sum f n)
+means-sum f (suc n) = means-add (sum_over integers f n) (f n) ∙ ap (λ x. voice_group.add x (voice_means (f n))) (means-sum f n)
 
 means-minus : (x y : ℤ) → voice_means (minus integers x y) ≡ minus voice_group (voice_means x) (voice_means y)
 means-minus x y = means-add x (neg_ℤ y) ∙ ap (voice_group.add (voice_means x)) (means-neg y)
@@ -35,19 +35,19 @@ means-minus x y = means-add x (neg_ℤ y) ∙ ap (voice_group.add (voice_means x
 means-crossing : (d : List ℕ → ℤ) (z r : ℕ) (v : List ℕ) → voice_means (crossing integers d z r v) ≡ crossing voice_group (λ w. voice_means (d w)) z r v
 means-crossing d z r v =
     let at : ℕ → ℤ = λ j. d (repeated z (r - j) ++ take (suc j) v) in
-    means-neg (sum integers at r) ∙ ap voice_group.neg (means-sum at r)
+    means-neg (sum_over integers at r) ∙ ap voice_group.neg (means-sum at r)
 
-sum_small : (f : ℕ → ℤ) (t n : ℕ) → ((i : ℕ) → i < n → nat_abs (f i) ≤ t) → nat_abs (sum integers f n) ≤ n * t
+sum_small : (f : ℕ → ℤ) (t n : ℕ) → ((i : ℕ) → i < n → nat_abs (f i) ≤ t) → nat_abs (sum_over integers f n) ≤ n * t
 sum_small f t zero e = omega (arith, zero-mul t)
 sum_small f t (suc n) e =
-    omega (arith, nat_abs-add (sum integers f n) (f n), sum_small f t n (λ i l. e i (omega arith)), e n (omega arith), suc-mul n t)
+    omega (arith, nat_abs-add (sum_over integers f n) (f n), sum_small f t n (λ i l. e i (omega arith)), e n (omega arith), suc-mul n t)
 
 -- for a label of small whole numbers on words of few letters, no word fails if none fails in voices
 module _ (d : List ℕ → ℤ) (t z q r : ℕ) (small : (w : List ℕ) → nat_abs (d w) ≤ t) (room : r * t + r * t + t < 2 ^ 63) where
   crossing_small : (v : List ℕ) → nat_abs (crossing integers d z r v) ≤ r * t
   crossing_small v =
       let at : ℕ → ℤ = λ j. d (repeated z (r - j) ++ take (suc j) v) in
-      subst (λ n. n ≤ r * t) (sym (nat_abs-neg (sum integers at r))) (sum_small at t r (λ j h. small (repeated z (r - j) ++ take (suc j) v)))
+      subst (λ n. n ≤ r * t) (sym (nat_abs-neg (sum_over integers at r))) (sum_small at t r (λ j h. small (repeated z (r - j) ++ take (suc j) v)))
 
   holds-whole : Holds voice_group (λ w. voice_means (d w)) z q r → Holds integers d z q r
   holds-whole holds w word =

@@ -1,6 +1,6 @@
 -- What the laws of a commutative group give, and sums. Assumes nothing.
 use Rattle.std.proofs.Common.{◌≡◌, ℕ, zero, suc, ◌+◌, ◌<◌, sym, refl, ap, ◌∙◌, ap₂, add-zero, add-suc, zero-add, add-one, arith}
-use Rattle.charge.specs.Groups.{Group, minus, sum}
+use Rattle.charge.specs.Groups.{Group, minus, sum_over}
 
 module _ (G : Group) where
   pub left_comm : (x y z : G.Carrier) → G.add x (G.add y z) ≡ G.add y (G.add x z)
@@ -56,49 +56,49 @@ module _ (G : Group) where
   minus_minus x y z = simp (minus, neg-add, neg-neg, G.assoc)
 
   -- one term more
-  pub sum_more : (f : ℕ → G.Carrier) (n : ℕ) (s x : G.Carrier) → s ≡ sum G f n → x ≡ f n → G.add s x ≡ sum G f (n + 1)
-  sum_more f n s x e h = ap₂ G.add e h ∙ sym (ap (sum G f) (add-one n))
+  pub sum_more : (f : ℕ → G.Carrier) (n : ℕ) (s x : G.Carrier) → s ≡ sum_over G f n → x ≡ f n → G.add s x ≡ sum_over G f (n + 1)
+  sum_more f n s x e h = ap₂ G.add e h ∙ sym (ap (sum_over G f) (add-one n))
 
-  pub sum_same : (f h : ℕ → G.Carrier) (n : ℕ) → ((i : ℕ) → i < n → f i ≡ h i) → sum G f n ≡ sum G h n
+  pub sum_same : (f h : ℕ → G.Carrier) (n : ℕ) → ((i : ℕ) → i < n → f i ≡ h i) → sum_over G f n ≡ sum_over G h n
   sum_same f h zero e = refl
   sum_same f h (suc n) e =
-      ap (λ t. G.add t (f n)) (sum_same f h n (λ i below. e i (omega arith))) ∙ ap (G.add (sum G h n)) (e n (omega arith))
+      ap (λ t. G.add t (f n)) (sum_same f h n (λ i below. e i (omega arith))) ∙ ap (G.add (sum_over G h n)) (e n (omega arith))
 
-  pub sum-zero : (f : ℕ → G.Carrier) (n : ℕ) → ((i : ℕ) → i < n → f i ≡ G.zero) → sum G f n ≡ G.zero
+  pub sum-zero : (f : ℕ → G.Carrier) (n : ℕ) → ((i : ℕ) → i < n → f i ≡ G.zero) → sum_over G f n ≡ G.zero
   sum-zero f zero e = refl
   sum-zero f (suc n) e =
       ap (λ t. G.add t (f n)) (sum-zero f n (λ i below. e i (omega arith))) ∙ G.unit (f n) ∙ e n (omega arith)
 
-  pub sum-add : (f h : ℕ → G.Carrier) (n : ℕ) → sum G (λ i. G.add (f i) (h i)) n ≡ G.add (sum G f n) (sum G h n)
+  pub sum-add : (f h : ℕ → G.Carrier) (n : ℕ) → sum_over G (λ i. G.add (f i) (h i)) n ≡ G.add (sum_over G f n) (sum_over G h n)
   sum-add f h zero = sym (G.unit G.zero)
   sum-add f h (suc n) =
-      ap (λ t. G.add t (G.add (f n) (h n))) (sum-add f h n) ∙ interchange (sum G f n) (sum G h n) (f n) (h n)
+      ap (λ t. G.add t (G.add (f n) (h n))) (sum-add f h n) ∙ interchange (sum_over G f n) (sum_over G h n) (f n) (h n)
 
-  pub sum-neg : (f : ℕ → G.Carrier) (n : ℕ) → sum G (λ i. G.neg (f i)) n ≡ G.neg (sum G f n)
+  pub sum-neg : (f : ℕ → G.Carrier) (n : ℕ) → sum_over G (λ i. G.neg (f i)) n ≡ G.neg (sum_over G f n)
   sum-neg f zero = sym neg-zero
-  sum-neg f (suc n) = ap (λ t. G.add t (G.neg (f n))) (sum-neg f n) ∙ sym (neg-add (sum G f n) (f n))
+  sum-neg f (suc n) = ap (λ t. G.add t (G.neg (f n))) (sum-neg f n) ∙ sym (neg-add (sum_over G f n) (f n))
 
-  pub sum-minus : (f h : ℕ → G.Carrier) (n : ℕ) → sum G (λ i. minus G (f i) (h i)) n ≡ minus G (sum G f n) (sum G h n)
-  sum-minus f h n = sum-add f (λ i. G.neg (h i)) n ∙ ap (G.add (sum G f n)) (sum-neg h n)
+  pub sum-minus : (f h : ℕ → G.Carrier) (n : ℕ) → sum_over G (λ i. minus G (f i) (h i)) n ≡ minus G (sum_over G f n) (sum_over G h n)
+  sum-minus f h n = sum-add f (λ i. G.neg (h i)) n ∙ ap (G.add (sum_over G f n)) (sum-neg h n)
 
   -- a sum taken apart after its first p terms
-  pub sum-append : (f : ℕ → G.Carrier) (p n : ℕ) → sum G f (p + n) ≡ G.add (sum G f p) (sum G (λ i. f (p + i)) n)
-  sum-append f p zero = ap (sum G f) (add-zero p) ∙ sym (unit-right (sum G f p))
+  pub sum-append : (f : ℕ → G.Carrier) (p n : ℕ) → sum_over G f (p + n) ≡ G.add (sum_over G f p) (sum_over G (λ i. f (p + i)) n)
+  sum-append f p zero = ap (sum_over G f) (add-zero p) ∙ sym (unit-right (sum_over G f p))
   sum-append f p (suc n) =
-      ap (sum G f) (add-suc p n) ∙ ap (λ t. G.add t (f (p + n))) (sum-append f p n) ∙ G.assoc (sum G f p) (sum G (λ i. f (p + i)) n) (f (p + n))
+      ap (sum_over G f) (add-suc p n) ∙ ap (λ t. G.add t (f (p + n))) (sum-append f p n) ∙ G.assoc (sum_over G f p) (sum_over G (λ i. f (p + i)) n) (f (p + n))
 
   -- a sum's first term taken apart
-  pub sum_first : (f : ℕ → G.Carrier) (n : ℕ) → sum G f (suc n) ≡ G.add (f 0) (sum G (λ i. f (suc i)) n)
+  pub sum_first : (f : ℕ → G.Carrier) (n : ℕ) → sum_over G f (suc n) ≡ G.add (f 0) (sum_over G (λ i. f (suc i)) n)
   sum_first f zero = G.comm G.zero (f 0)
-  sum_first f (suc n) = ap (λ t. G.add t (f (suc n))) (sum_first f n) ∙ G.assoc (f 0) (sum G (λ i. f (suc i)) n) (f (suc n))
+  sum_first f (suc n) = ap (λ t. G.add t (f (suc n))) (sum_first f n) ∙ G.assoc (f 0) (sum_over G (λ i. f (suc i)) n) (f (suc n))
 
-  sum_turn_one : (f : ℕ → G.Carrier) (n : ℕ) → f n ≡ f 0 → sum G (λ i. f (suc i)) n ≡ sum G f n
+  sum_turn_one : (f : ℕ → G.Carrier) (n : ℕ) → f n ≡ f 0 → sum_over G (λ i. f (suc i)) n ≡ sum_over G f n
   sum_turn_one f n e =
-      cancel_right (sum G (λ i. f (suc i)) n) (sum G f n) (f 0)
-      (G.comm (sum G (λ i. f (suc i)) n) (f 0) ∙ sym (sum_first f n) ∙ ap (G.add (sum G f n)) e)
+      cancel_right (sum_over G (λ i. f (suc i)) n) (sum_over G f n) (f 0)
+      (G.comm (sum_over G (λ i. f (suc i)) n) (f 0) ∙ sym (sum_first f n) ∙ ap (G.add (sum_over G f n)) e)
 
   -- a sum over one period may start at any place
-  pub sum_turn : (f : ℕ → G.Carrier) (n : ℕ) → ((i : ℕ) → f (i + n) ≡ f i) → (l : ℕ) → sum G (λ i. f (i + l)) n ≡ sum G f n
+  pub sum_turn : (f : ℕ → G.Carrier) (n : ℕ) → ((i : ℕ) → f (i + n) ≡ f i) → (l : ℕ) → sum_over G (λ i. f (i + l)) n ≡ sum_over G f n
   sum_turn f n e zero = sum_same (λ i. f (i + zero)) f n (λ i _. ap f (add-zero i))
   sum_turn f n e (suc l) =
       sum_same (λ i. f (i + suc l)) (λ i. f (suc i + l)) n (λ i _. ap f (omega arith))
@@ -106,6 +106,6 @@ module _ (G : Group) where
       ∙ sum_turn f n e l
 
   -- in a sum of differences of neighbours only the ends are left
-  pub telescope : (f : ℕ → G.Carrier) (n : ℕ) → sum G (λ i. minus G (f i) (f (suc i))) n ≡ minus G (f 0) (f n)
+  pub telescope : (f : ℕ → G.Carrier) (n : ℕ) → sum_over G (λ i. minus G (f i) (f (suc i))) n ≡ minus G (f 0) (f n)
   telescope f zero = sym (G.cancel (f 0))
   telescope f (suc n) = ap (λ t. G.add t (minus G (f n) (f (suc n)))) (telescope f n) ∙ minus_chain (f 0) (f n) (f (suc n))

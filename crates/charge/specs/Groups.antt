@@ -17,9 +17,9 @@ abbrev pub minus : (G : Group) → G.Carrier → G.Carrier → G.Carrier
 minus G x y = G.add x (G.neg y)
 
 -- f 0 + .. + f (n - 1)
-abbrev pub sum : (G : Group) → (ℕ → G.Carrier) → ℕ → G.Carrier
-sum G f zero = G.zero
-sum G f (suc n) = G.add (sum G f n) (f n)
+abbrev pub sum_over : (G : Group) → (ℕ → G.Carrier) → ℕ → G.Carrier
+sum_over G f zero = G.zero
+sum_over G f (suc n) = G.add (sum_over G f n) (f n)
 
 -- A kind of charge: the group, what each charge means there, whether two meanings are the same, and which
 -- meanings may be entries of a density. Zero may be one.

@@ -1,6 +1,6 @@
 -- No word fails exactly when the label sums to zero on every ring. Assumes nothing.
 use Rattle.std.proofs.Common.{◌≡◌, ℕ, zero, suc, ◌+◌, ◌-◌, ◌≤◌, List, [], ◌∷◌, ◌++◌, length, take, drop, sym, refl, ap, ◌∙◌, ap₂, zero-add, arith, take_all, take-take}
-use Rattle.charge.specs.Groups.{Group, minus, sum}
+use Rattle.charge.specs.Groups.{Group, minus, sum_over}
 use Rattle.charge.proofs.Sums.{sum_same, sum-append, sum_first, telescope, minus-both, minus_minus, neg-neg, same_from-minus}
 use Rattle.automaton.specs.Words.{Letters, Word, repeated, window, cell}
 use Rattle.automaton.proofs.Rings.{take-window, window_turn, cell_turn, ring-word}
@@ -31,17 +31,17 @@ module _ (G : Group) where
 module _ (G : Group) (z : ℕ) where
   -- the sum over the windows that begin with z, of which J is the opposite
   abbrev pub heads : (List ℕ → G.Carrier) → ℕ → List ℕ → G.Carrier
-  heads d r v = sum G (λ j. d (repeated z (r - j) ++ take (suc j) v)) r
+  heads d r v = sum_over G (λ j. d (repeated z (r - j) ++ take (suc j) v)) r
 
   -- the sum over the windows that begin in v
   abbrev bodies : (List ℕ → G.Carrier) → ℕ → List ℕ → ℕ → G.Carrier
-  bodies d r v n = sum G (λ i. d (window (suc r) (place z v) i)) n
+  bodies d r v n = sum_over G (λ i. d (window (suc r) (place z v) i)) n
 
   pad-sum : (d : List ℕ → G.Carrier) (r : ℕ) (v : List ℕ) → r ≤ length v →
       ring_sum G d (suc r) (v ++ repeated z r) ≡ G.add (bodies d r v (length v)) (heads d r v)
   pad-sum d r v fits =
       let f : ℕ → G.Carrier = λ i. d (window (suc r) (cell (v ++ repeated z r)) i) in
-      ap (sum G f) (length_pad z v r)
+      ap (sum_over G f) (length_pad z v r)
       ∙ sum-append G f (length v) r
       ∙ ap₂ G.add
       (sum_same G f (λ i. d (window (suc r) (place z v) i)) (length v) (λ i h. ap d (pad-first z v r fits i h)))

@@ -5,7 +5,7 @@ use lib.Seq.{take-append-le}
 use Rattle.std.specs.Int.Digits.{number_from_digits_after}
 use Rattle.std.proofs.lemmas.List.{take_more_set, drop-set, drop_all, append_assoc, append-nil, map_push, get_or-map, length-map}
 use Rattle.fault.specs.Answers.{front}
-use Rattle.charge.specs.Groups.{Group, Kind, minus, sum}
+use Rattle.charge.specs.Groups.{Group, Kind, minus, sum_over}
 use Rattle.charge.proofs.Sums.{left_comm, interchange, neg_is, sum_more, sum_same, sum_first}
 use Rattle.automaton.specs.Words.{code, word, repeated, table}
 use Rattle.automaton.specs.Meanings.{Weights, weight}
@@ -49,12 +49,12 @@ head-code q r v j some below h =
     ((div-lt_iff_lt-mul (power-some q some (r - suc j))).1 (subst (λ n. v < n) (ap (λ n. q ^ n) parts ∙ pow-add q (suc j) (r - suc j)) below))
 
 -- a sum may be taken from its last term on
-sum_back : (G : Group) (f : ℕ → G.Carrier) (n : ℕ) → sum G f n ≡ sum G (λ i. f (n - suc i)) n
+sum_back : (G : Group) (f : ℕ → G.Carrier) (n : ℕ) → sum_over G f n ≡ sum_over G (λ i. f (n - suc i)) n
 sum_back G f zero = refl
 sum_back G f (suc n) =
     let last : n ≡ suc n - suc 0 = omega arith in
     ap (λ t. G.add t (f n)) (sum_back G f n)
-    ∙ G.comm (sum G (λ i. f (n - suc i)) n) (f n)
+    ∙ G.comm (sum_over G (λ i. f (n - suc i)) n) (f n)
     ∙ ap₂ G.add (ap f last) (sum_same G (λ i. f (n - suc i)) (λ i. f (suc n - suc (suc i))) n (λ i h. ap f (omega arith)))
     ∙ sym (sum_first G (λ i. f (suc n - suc i)) n)
 
@@ -75,7 +75,7 @@ module _ {C : Type 0} (K : Kind C) (d : Weights K.group.Carrier) where
   front_label v i = get_or d.charges (v / d.q ^ i) K.group.zero
 
   crossing-code : (v : ℕ) → 0 < d.q → v < d.q ^ (d.k - 1) →
-      J K 0 d (word d.q (d.k - 1) v) ≡ K.group.neg (sum K.group (front_label v) (d.k - 1))
+      J K 0 d (word d.q (d.k - 1) v) ≡ K.group.neg (sum_over K.group (front_label v) (d.k - 1))
   crossing-code v some below =
       let G = K.group in
       let r = d.k - 1 in
@@ -92,21 +92,21 @@ module _ {C : Type 0} (K : Kind C) (d : Weights K.group.Carrier) where
       let G = K.group in
       let r = d.k - 1 in
       let f : ℕ → G.Carrier = front_label v in
-      let fewer : sum G (λ i. f (suc i)) r ≡ sum G (front_label (v / d.q)) r =
+      let fewer : sum_over G (λ i. f (suc i)) r ≡ sum_over G (front_label (v / d.q)) r =
       sum_same G (λ i. f (suc i)) (front_label (v / d.q)) r
       (λ i h. ap (λ c. get_or d.charges c G.zero) (ap (λ p. v / p) (pow-suc d.q i ∙ mul_comm (d.q ^ i) d.q) ∙ sym (div-div-eq-div-mul v d.q (d.q ^ i)))) in
       let last : f r ≡ z = ap (λ c. get_or d.charges c G.zero) (div-eq_of_lt below) ∙ sym ez in
       let first : f 0 ≡ a = ap (λ c. get_or d.charges c G.zero) (sym (front_all d.q v)) ∙ sym ea in
-      let sums : G.add (sum G f r) z ≡ G.add a (sum G (front_label (v / d.q)) r) =
-      ap (G.add (sum G f r)) (sym last) ∙ sum_first G f r ∙ ap₂ G.add first fewer in
-      let head : x ≡ G.neg (sum G (front_label (v / d.q)) r) = ex ∙ crossing-code (v / d.q) some (omega (arith, below, div-le_self v d.q)) in
+      let sums : G.add (sum_over G f r) z ≡ G.add a (sum_over G (front_label (v / d.q)) r) =
+      ap (G.add (sum_over G f r)) (sym last) ∙ sum_first G f r ∙ ap₂ G.add first fewer in
+      let head : x ≡ G.neg (sum_over G (front_label (v / d.q)) r) = ex ∙ crossing-code (v / d.q) some (omega (arith, below, div-le_self v d.q)) in
       ap (λ t. G.add t (minus G z a)) head
-      ∙ moved G (sum G f r) (sum G (front_label (v / d.q)) r) z a sums
+      ∙ moved G (sum_over G f r) (sum_over G (front_label (v / d.q)) r) z a sums
       ∙ sym (crossing-code v some below)
 
   -- after j terms the sum is s, and the front is what is left of v
   abbrev pub Summed : ℕ → ℕ → ℕ → C → Type 0
-  Summed v j front s = (front ≡ v / d.q ^ j) × (K.means s ≡ sum K.group (front_label v) j)
+  Summed v j front s = (front ≡ v / d.q ^ j) × (K.means s ≡ sum_over K.group (front_label v) j)
 
   pub summed_more : (v j front q : ℕ) (s x t : C) → Summed v j front s → q ≡ d.q → K.means x ≡ get_or d.charges front K.group.zero →
       K.means t ≡ K.group.add (K.means s) (K.means x) → Summed v (j + 1) (front / q) t
@@ -118,7 +118,7 @@ module _ {C : Type 0} (K : Kind C) (d : Weights K.group.Carrier) where
   pub summed_all : (v j front : ℕ) (s : C) → Summed v j front s → j ≡ d.k - 1 → 0 < d.q → v < d.q ^ (d.k - 1) →
       K.group.neg (K.means s) ≡ J K 0 d (word d.q (d.k - 1) v)
   summed_all v j front s (fronts, sums) all some below =
-      ap K.group.neg (sums ∙ ap (sum K.group (front_label v)) all) ∙ sym (crossing-code v some below)
+      ap K.group.neg (sums ∙ ap (sum_over K.group (front_label v)) all) ∙ sym (crossing-code v some below)
 
 module _ {C X : Type 0} (means : C → X) (f : ℕ → X) where
   -- one more charge at the front of a strip

@@ -1,6 +1,6 @@
 -- Labels, crossings and what it is to balance. Assumes nothing.
 use Rattle.std.specs.Prelude.{◌≡◌, ℕ, suc, ◌-◌, ◌≤◌, List, ◌++◌, length, take, drop}
-use Rattle.charge.specs.Groups.{Group, minus, sum}
+use Rattle.charge.specs.Groups.{Group, minus, sum_over}
 use Rattle.automaton.specs.Words.{Letters, Word, repeated, window, cell}
 
 -- In all of these d is a label: a charge for each word of r + 1 letters. z is the letter that words and rings are
@@ -8,7 +8,7 @@ use Rattle.automaton.specs.Words.{Letters, Word, repeated, window, cell}
 
 -- the sum of d over all windows of a ring
 abbrev pub ring_sum : (G : Group) → (List ℕ → G.Carrier) → ℕ → List ℕ → G.Carrier
-ring_sum G d m c = sum G (λ i. d (window m (cell c) i)) (length c)
+ring_sum G d m c = sum_over G (λ i. d (window m (cell c) i)) (length c)
 
 -- the label sums to zero on every ring
 abbrev pub SumsToZero : (G : Group) → (List ℕ → G.Carrier) → ℕ → ℕ → Type 0
@@ -17,7 +17,7 @@ SumsToZero G d q m = (c : List ℕ) → 1 ≤ length c → Letters q c → ring_
 -- the crossing J of a word v of r letters: the opposite of the sum, for j = 0 to r - 1, of d on r - j letters z
 -- and then v(0) to v(j)
 abbrev pub crossing : (G : Group) → (List ℕ → G.Carrier) → ℕ → ℕ → List ℕ → G.Carrier
-crossing G d z r v = G.neg (sum G (λ j. d (repeated z (r - j) ++ take (suc j) v)) r)
+crossing G d z r v = G.neg (sum_over G (λ j. d (repeated z (r - j) ++ take (suc j) v)) r)
 
 -- with the table of crossings K the word w does not fail: d(w) is what crosses at its first r letters less what
 -- crosses at its last r letters

@@ -10,7 +10,7 @@ use Rattle.player.specs.Calls.Call.{opens, touches, steps, reads, closes}
 use Rattle.player.specs.Calls.Answer.{refused}
 use Rattle.player.specs.Logs.{Line, Log, allowed, ended, used, accepted, standing, HandedOn, WithoutGaps}
 use Rattle.player.specs.Logs.Log.{◌then◌}
-use Rattle.player.specs.Scripts.{Played, got, left_by, logged, still_open, cells_after, played_more, played, ScriptsLogged}
+use Rattle.player.specs.Scripts.{Played, got, left_by, logged, still_open, cells_after, played_more, played}
 use Rattle.player.proofs.Logs.{front_again, ring_same}
 
 -- where a ring is open, it is the front of the strips
@@ -159,5 +159,7 @@ module _ {C : Type 0} (K : Kind C) (r : Local) (d : Weights K.group.Carrier) whe
       played K r d s (script ++ (call ∷ [])) ≡ played_more K r d (played K r d s script) call
   played_push s script call = fold_push (played_more K r d) (played K r d s []) script call
 
-pub scripts_logged : {C : Type 0} (K : Kind C) → ScriptsLogged K
+-- the log of a script has no gaps
+pub scripts_logged : {C : Type 0} (K : Kind C) (r : Local) (d : Weights K.group.Carrier) (s : Strips K.group.Carrier) (script : List Call) →
+    WithoutGaps K r d (played K r d s script).log
 scripts_logged K r d s script = (script_whole K r d s script).0

@@ -1,6 +1,6 @@
 -- Logs of a player's calls, the plain ring, and what holds on each line of a log without gaps. Assumes nothing.
 use Rattle.std.specs.Prelude.{◌≡◌, ℕ, ◌+◌, ◌≤◌, Bool, true, List, [], length, Ok, nat_le, nat_eq}
-use Rattle.charge.specs.Groups.{Group, Kind, minus, sum}
+use Rattle.charge.specs.Groups.{Group, Kind, minus, sum_over}
 use Rattle.automaton.specs.Words.{round}
 use Rattle.automaton.specs.Meanings.{Local, Weights, Lawful, Weighed}
 use Rattle.bench.specs.Laws.{KeepsTotal}
@@ -82,7 +82,7 @@ OnEveryLine P (log then line) = OnEveryLine P log × P log line
 
 -- the sum over the n sites of an arc, from site a on
 abbrev pub arc : (G : Group) → (ℕ → G.Carrier) → ℕ → ℕ → G.Carrier
-arc G f a n = sum G (λ t. f (a + t)) n
+arc G f a n = sum_over G (λ t. f (a + t)) n
 
 -- what the meters say of an arc: its charge at opening, what crossed in and out, what was touched, and its charge now
 pub record ArcMeters (A : Type 0) : Type 0 where

@@ -4,7 +4,7 @@ use Rattle.charge.specs.Groups.{Kind}
 use Rattle.automaton.specs.Meanings.{Local, Weights}
 use Rattle.player.specs.Calls.{Call, Answer, Strips, Outcome, size, outcome}
 use Rattle.player.specs.Calls.Call.{opens, touches, steps, reads, closes}
-use Rattle.player.specs.Logs.{Log, allowed, accepted, standing, WithoutGaps}
+use Rattle.player.specs.Logs.{Log, allowed, accepted, standing}
 use Rattle.player.specs.Logs.Log.{made, ◌then◌}
 
 -- what has been played: the log, the strips as they stand, and what was answered to each call
@@ -54,7 +54,3 @@ module _ {C : Type 0} (K : Kind C) (r : Local) (d : Weights K.group.Carrier) whe
   -- a script played from the making of a bench on
   abbrev pub played : Strips K.group.Carrier → List Call → Played K.group.Carrier
   played s script = fold played_more (record { log = made; strips = s; said = [] }) script
-
--- the log of a script has no gaps
-abbrev pub ScriptsLogged : {C : Type 0} → Kind C → Type 0
-ScriptsLogged K = (r : Local) (d : Weights K.group.Carrier) (s : Strips K.group.Carrier) (script : List Call) → WithoutGaps K r d (played K r d s script).log

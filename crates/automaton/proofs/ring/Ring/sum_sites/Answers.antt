@@ -1,5 +1,5 @@
 use Rattle.std.proofs.Common.{ℕ, get_or, length, ap, sym, ◌∙◌, arith}
-use Rattle.charge.specs.Groups.{sum}
+use Rattle.charge.specs.Groups.{sum_over}
 use Rattle.charge.proofs.Sums.{sum_more}
 use Rattle.automaton.specs.Words.{code, window, cell, before}
 use Rattle.automaton.specs.Meanings.{site, booking_offset}
@@ -17,4 +17,4 @@ loop-i-preserved g c =
 pub returns : goal.returns
 returns g c =
     let K = g.C.Charge.kind in
-    c.loop-i.invariant ∙ ap (sum K.group (site K.group booking_offset (g.D.Density.weights K c.args.density.now) c.args.self.cells.now)) (omega arith)
+    c.loop-i.invariant ∙ ap (sum_over K.group (site K.group booking_offset (g.D.Density.weights K c.args.density.now) c.args.self.cells.now)) (omega arith)
