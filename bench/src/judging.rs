@@ -29,7 +29,8 @@ pub struct Bench<'a, C> {
     weighed: usize,
 }
 
-fn position<T>(items: &[T], stop: u32, bad: impl Fn(&T) -> bool) -> Result<(), Refusal> {
+/// The first item that is bad, as a refusal by its index.
+fn check_each<T>(items: &[T], stop: u32, bad: impl Fn(&T) -> bool) -> Result<(), Refusal> {
     match items.iter().position(bad) {
         Some(i) => Err((stop, i)),
         None => Ok(()),
@@ -43,8 +44,8 @@ impl<'a, C: Charge> Bench<'a, C> {
         charges: &'a [C],
     ) -> Result<Bench<'a, C>, Refusal> {
         let Header { q, n, l, k, .. } = header;
-        position(letters, 14, |letter| u64::from(*letter) >= q)?;
-        position(charges, 15, |charge| !charge.is_entry())?;
+        check_each(letters, 14, |letter| u64::from(*letter) >= q)?;
+        check_each(charges, 15, |charge| !charge.is_entry())?;
         let [q, n, l, k] = [q, n, l, k].map(|size| size as usize);
         let power = |len: usize| q.pow(len as u32);
         Ok(Bench {
@@ -210,7 +211,7 @@ impl<'a, C: Charge> Bench<'a, C> {
         let work = &mut work[..self.heads];
         let found = match way {
             Way::Recurrences => self.search(work),
-            Way::Formula => self.search_plainly(work),
+            Way::Formula => self.search_by_formula(work),
         };
         for (entry, charge) in crossings.iter_mut().zip(work.iter()) {
             *entry = charge.to_entry();
@@ -219,7 +220,7 @@ impl<'a, C: Charge> Bench<'a, C> {
     }
 
     /// Each crossing by the labels of its fronts, each letter of each label asked anew, each power counted anew.
-    fn search_plainly(&self, crossings: &mut [C]) -> Option<usize> {
+    fn search_by_formula(&self, crossings: &mut [C]) -> Option<usize> {
         let power = |len: usize| self.q.pow(len as u32);
         let label = |code: usize| {
             let next = (0..self.k).fold(0, |next, j| {
@@ -242,7 +243,7 @@ impl<'a, C: Charge> Bench<'a, C> {
 
 /// The charges of some entries, at the front of a strip.
 pub fn fill_charges<C: Charge>(entries: &[Entry], charges: &mut [C]) -> Result<(), Refusal> {
-    position(entries, 15, |entry| C::from_entry(*entry).is_none())?;
+    check_each(entries, 15, |entry| C::from_entry(*entry).is_none())?;
     for (charge, entry) in charges.iter_mut().zip(entries) {
         *charge = C::from_entry(*entry).unwrap_or(C::ZERO);
     }

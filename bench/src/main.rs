@@ -1,6 +1,6 @@
 //! Proved code, called through the C library, beside hand-written Rust of the same functions, in one process: first the
 //! results of both on many random inputs, then times. With a work's name and a side it does that work alone, so that its
-//! instructions can be counted: bench WORK SIDE ROUNDS.
+//! instructions can be counted: bench WORK SIDE ROUNDS, where SIDE is proved, rust or plain.
 
 mod charges;
 mod judging;
@@ -262,7 +262,8 @@ fn main() {
         let side = match side.as_str() {
             "proved" => Side::Proved,
             "rust" => Side::Rust,
-            _ => Side::Plain,
+            "plain" => Side::Plain,
+            _ => panic!("a side is proved, rust or plain"),
         };
         let rounds: usize = rounds.parse().expect("a number");
         let (calls, times) = match work {

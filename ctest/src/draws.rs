@@ -137,7 +137,7 @@ pub fn rings(random: &mut Random, q: usize) -> Vec<u8> {
         .collect()
 }
 
-/// A script on these letters, with refused and untimely calls.
+/// A script on these letters, with calls that are refused and calls that are not allowed.
 pub fn script(random: &mut Random, q: usize, letters: usize) -> Vec<ScriptCall> {
     let longest = match random.once_in(100) {
         true => letters,

@@ -1,4 +1,4 @@
-//! Playing, on random scripts with refused and untimely calls, and on buffers of many lengths.
+//! Playing, on random scripts with calls that are refused and calls that are not allowed, and on buffers of many lengths.
 
 use ctest::draws::{any_preset, damaged, preset, rings, script};
 use ctest::format::{KINDS, Preset, preset_bytes, read_preset};

@@ -12,17 +12,20 @@ static uint8_t bytes[MOST_BYTES];
 static uint8_t letters[RINGBENCH_STRIP];
 static struct ringbench_entry entries[RINGBENCH_STRIP];
 
-/* Reads a file, and returns how many bytes it has, or -1. */
-static long read_file(const char *path)
+/* Reads a file into `bytes`, and says so where it cannot be read. */
+static bool read_file(const char *path, size_t *count)
 {
     FILE *file = fopen(path, "rb");
-    if (file == NULL) {
-        return -1;
+    bool whole = false;
+    if (file != NULL) {
+        *count = fread(bytes, 1, sizeof bytes, file);
+        whole = feof(file) && !ferror(file);
+        fclose(file);
     }
-    size_t count = fread(bytes, 1, sizeof bytes, file);
-    int bad = ferror(file) || !feof(file);
-    fclose(file);
-    return bad ? -1 : (long)count;
+    if (!whole) {
+        fprintf(stderr, "%s cannot be read\n", path);
+    }
+    return whole;
 }
 
 static void print_charge(uint64_t kind, struct ringbench_entry charge)
@@ -138,19 +141,21 @@ static void play(size_t count)
 int main(int argc, char **argv)
 {
     const char *holds = NULL;
+    size_t count = 0;
     for (int i = 1; i < argc; i++) {
-        long count = read_file(argv[i]);
-        if (count < 0) {
-            fprintf(stderr, "%s cannot be read\n", argv[i]);
+        if (!read_file(argv[i], &count)) {
             return 1;
         }
-        if (judge(argv[i], (size_t)count) && holds == NULL) {
+        if (judge(argv[i], count) && holds == NULL) {
             holds = argv[i];
         }
     }
     if (holds != NULL) {
+        if (!read_file(holds, &count)) {
+            return 1;
+        }
         printf("\n%s, played:\n", holds);
-        play((size_t)read_file(holds));
+        play(count);
     }
     return 0;
 }
