@@ -3,7 +3,12 @@ use Rattle.std.proofs.Common.{◌≡◌, ℕ, zero, suc, ◌+◌, ◌*◌, ◌/�
 use native.Mathlib.Nat.{add-mod_right, div-add-mod}
 use lib.ListN.{length-replicate, get_or-replicate}
 use Rattle.automaton.specs.Words.{Letters, Word, repeated, window, table, round, cell}
-pub use Rattle.automaton.specs.Tables.{length-window, get_or-window, length-table, get_or-table, table-past}
+use Rattle.std.proofs.lemmas.List.{get_or_past}
+pub use Rattle.automaton.specs.Tables.{length-window, get_or-window, length-table, get_or-table}
+
+-- past the end of a table
+pub table-past : {X : Type 0} (n : ℕ) (f : ℕ → X) (none : X) (i : ℕ) → n ≤ i → get_or (table n f) i none ≡ none
+table-past n f none i h = get_or_past (table n f) i none (omega (arith, length-table n f))
 
 -- two windows are the same if their entries are
 pub window_same : {X : Type 0} (m : ℕ) (s u : ℕ → X) (i k : ℕ) → ((t : ℕ) → t < m → s (i + t) ≡ u (k + t)) → window m s i ≡ window m u k

@@ -1,5 +1,5 @@
 -- Rules and densities as they are made, and when they are refused. Assumes nothing.
-use Rattle.std.specs.Prelude.{ℕ, suc, ◌+◌, ◌-◌, ◌*◌, ◌^◌, Bool, cond, ltb, List, [], ◌∷◌, map, length, take, Ok, Err, Result, ◌==◌, nat_le, nat_lt, slice_index, slice_index_or}
+use Rattle.std.specs.Prelude.{ℕ, suc, ◌+◌, ◌-◌, ◌*◌, ◌^◌, Bool, cond, List, [], ◌∷◌, map, length, take, Ok, Err, Result, ◌==◌, nat_le, nat_lt, slice_index, slice_index_or}
 use Rattle.std.specs.Borrow.{Bor}
 use Rattle.fault.specs.declared.Fault.{Fault}
 use Rattle.fault.specs.declared.Stop.{Stop}
@@ -85,28 +85,30 @@ abbrev pub lent : {X : Type 0} → Result (Bor (List X)) Fault → Result (List 
 lent (Ok s) = Ok s.now
 lent (Err f) = Err (refusal f)
 
--- The letters of a rule that takes `need` of them, the entries of a density, and the letters of a pattern; or the
--- refusal with the lowest code.
+-- the letters of a rule that takes `need` of them, or the refusal with the lowest code
 abbrev pub rule_making : ℕ → ℕ → ℕ → ℕ → List ℕ → Result (List ℕ) Refusal
 rule_making q n l need letters =
     and_then (tested (rule_tests q n l)) (λ _.
     and_then (counted q n) (λ _.
-    taken (λ a. ltb a q) BadLetter need letters))
+    taken (λ a. nat_lt a q) BadLetter need letters))
 
+-- whether a charge may be an entry
 abbrev pub may_enter : {C : Type 0} → Kind C → C → Bool
 may_enter K x = K.entry (K.means x)
 
+-- the entries of a density, likewise
 abbrev pub table_making : {C : Type 0} → Kind C → ℕ → ℕ → List C → Result (List C) Refusal
 table_making K q k entries =
     and_then (tested (density_tests q k)) (λ _.
     and_then (counted q k) (λ count.
     taken (may_enter K) BadEntry count entries))
 
+-- the letters of a pattern, likewise; its charge is tested last
 abbrev pub pattern_making : {C : Type 0} → Kind C → ℕ → ℕ → List ℕ → C → Result (List ℕ) Refusal
 pattern_making K q k pattern charge =
     and_then (tested (density_tests q k)) (λ _.
     and_then (counted q k) (λ _.
-    and_then (taken (λ a. ltb a q) BadLetter k pattern) (λ letters.
+    and_then (taken (λ a. nat_lt a q) BadLetter k pattern) (λ letters.
     cond (may_enter K charge) (Ok letters) (Err (refused_at BadEntry 0)))))
 
 -- a call that makes something of what it takes, or refuses
@@ -123,6 +125,6 @@ abbrev pub ring_checked : ℕ → ℕ → List ℕ → Result (List ℕ) Refusal
 ring_checked q room ring =
     cond (within 1 (suc most_cells) (length ring))
     (cond (nat_le (length ring) room)
-    (and_then (each_fits (λ a. ltb a q) BadLetter 0 ring) (λ _. Ok ring))
+    (and_then (each_fits (λ a. nat_lt a q) BadLetter 0 ring) (λ _. Ok ring))
     (Err (refused_at ShortStrip 0)))
     (Err (refused_at BadLength 0))

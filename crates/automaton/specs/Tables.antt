@@ -1,7 +1,6 @@
 -- Tables of functions, read entry by entry. Assumes nothing.
-use Rattle.std.specs.Prelude.{◌≡◌, ℕ, zero, suc, ◌+◌, ◌<◌, ◌≤◌, length, slice_index_or, refl}
+use Rattle.std.specs.Prelude.{◌≡◌, ℕ, zero, suc, ◌+◌, ◌<◌, length, slice_index_or, refl}
 use Rattle.std.proofs.Common.{sym, ap, ◌∙◌, add-zero, zero-add, arith}
-use Rattle.std.proofs.lemmas.List.{get_or_past}
 use Rattle.automaton.specs.Words.{window, table}
 
 pub length-window : {X : Type 0} (m : ℕ) (s : ℕ → X) (i : ℕ) → length (window m s i) ≡ m
@@ -19,6 +18,3 @@ module _ {X : Type 0} (n : ℕ) (f : ℕ → X) where
 
   pub get_or-table : (none : X) (i : ℕ) → i < n → slice_index_or (table n f) i none ≡ f i
   get_or-table none i h = get_or-window none n f 0 i h ∙ ap f (zero-add i)
-
-  pub table-past : (none : X) (i : ℕ) → n ≤ i → slice_index_or (table n f) i none ≡ none
-  table-past none i h = get_or_past (table n f) i none (omega (arith, length-table))

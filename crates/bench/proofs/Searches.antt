@@ -11,26 +11,26 @@ use Rattle.automaton.specs.Making.{ring_checked, done}
 use Rattle.automaton.specs.Meanings.{Local, Weights, Lawful, Weighed, next, total}
 use Rattle.automaton.proofs.Passes.{ring_ready}
 use Rattle.automaton.proofs.Steps.{length-next, next_word}
-use Rattle.criterion.specs.Answers.{counted, examined, crossings_written, unless_refused, ring_written}
+use Rattle.criterion.specs.Answers.{with_length, examined, crossings_written, unless_refused, ring_written}
 use Rattle.criterion.specs.Search.{padding, crossings}
 use Rattle.criterion.specs.Strips.{FrontMeans}
 use Rattle.bench.specs.Labels.{rule_label_list, two_label, two_label_list, listed}
 use Rattle.bench.specs.Laws.{VerdictRight, ComparisonRight}
 use Rattle.bench.specs.Sized.{SizesOf, sized_rule, sized_density, first_sized, second_sized}
-use Rattle.bench.specs.Verdicts.{Ring, bench_checked, fitting, judge_found, compare_found}
+use Rattle.bench.specs.Verdicts.{ShownRing, bench_checked, fitting, judge_found, compare_found}
 use Rattle.bench.specs.declared.sizes.RuleSizes.{RuleSizes}
 use Rattle.bench.specs.declared.sizes.TwoSizes.{TwoSizes}
 use Rattle.bench.proofs.Rights.{fits, label-sizes, verdict_right, comparison_right}
 
 -- what a call on lent strips answers and leaves, by what is found and by the crossings
 pub record Left {C : Type 0} (K : Kind C) (found : Result (Option (ℕ × List ℕ)) Refusal) (all : List K.group.Carrier) (said : Result (Option (ℕ × ℕ)) Refusal) (old new : List C) (was now : List ℕ) : Type 0 where
-  pub answer : said ≡ counted found
+  pub answer : said ≡ with_length found
   pub crossings : FrontMeans K (unless_refused found all) old new
   pub ring : now ≡ front (ring_written found) was
 
 module _ {C : Type 0} (K : Kind C) (a b : ℕ) (L M : Weights K.group.Carrier) (t : Result (Unit {0}) Refusal) (said : Result (Option (ℕ × ℕ)) Refusal) (old new : List C) (was now : List ℕ) where
   -- the same label under another name, once the sizes have passed
-  pub left_passed : t ≡ Ok tt → L ≡ M → said ≡ counted (examined K padding L a b) → FrontMeans K (crossings_written K padding L a b) old new →
+  pub left_passed : t ≡ Ok tt → L ≡ M → said ≡ with_length (examined K padding L a b) → FrontMeans K (crossings_written K padding L a b) old new →
       now ≡ front (ring_written (examined K padding L a b)) was → Left K (and_then t (λ _. examined K padding M a b)) (crossings K padding M) said old new was now
   left_passed passed same x y z =
       subst (λ (u : Result (Unit {0}) Refusal). Left K (and_then u (λ _. examined K padding M a b)) (crossings K padding M) said old new was now) (sym passed)
@@ -83,13 +83,13 @@ pub record Shown (q : ℕ) (found : Result (Option (ℕ × List ℕ)) Refusal) (
   pub most : len ≤ 23
   pub letters : Letters q ring
 
-counted-some : (found : Result (Option (ℕ × List ℕ)) Refusal) (w n : ℕ) → Ok (Some (w, n)) ≡ counted found → (c : List ℕ) × (found ≡ Ok (Some (w, c))) × (length c ≡ n)
+counted-some : (found : Result (Option (ℕ × List ℕ)) Refusal) (w n : ℕ) → Ok (Some (w, n)) ≡ with_length found → (c : List ℕ) × (found ≡ Ok (Some (w, c))) × (length c ≡ n)
 counted-some (Ok None) w n e = absurd (grind (arith, e))
 counted-some (Ok (Some f)) w n e =
     (f.1, ap (λ (v : ℕ). Ok (Some (v, f.1))) (grind (arith, e)), grind (arith, e))
 counted-some (Err f) w n e = absurd (grind (arith, e))
 
-shown_in : (q w n : ℕ) (found : Result (Option (ℕ × List ℕ)) Refusal) (was strip : List ℕ) → Ok (Some (w, n)) ≡ counted found → strip ≡ front (ring_written found) was →
+shown_in : (q w n : ℕ) (found : Result (Option (ℕ × List ℕ)) Refusal) (was strip : List ℕ) → Ok (Some (w, n)) ≡ with_length found → strip ≡ front (ring_written found) was →
     ((c : List ℕ) → found ≡ Ok (Some (w, c)) → (1 ≤ length c) × (length c ≤ 23) × Letters q c) → Shown q found w n strip
 shown_in q w n found was strip e s apart =
     let p = counted-some found w n e in
@@ -116,7 +116,7 @@ passed q other m x y e = through (fitting q other m) e
     through (Err f) e = absurd (grind (arith, e))
 
 module _ {C : Type 0} (K : Kind C) (a b : ℕ) (w n : ℕ) (was strip : List ℕ) where
-  pub judge-shown : (r : Local) (d : Weights K.group.Carrier) → Lawful r → Weighed d → Ok (Some (w, n)) ≡ counted (judge_found K a b r d) →
+  pub judge-shown : (r : Local) (d : Weights K.group.Carrier) → Lawful r → Weighed d → Ok (Some (w, n)) ≡ with_length (judge_found K a b r d) →
       strip ≡ front (ring_written (judge_found K a b r d)) was → Shown r.q (judge_found K a b r d) w n strip × (r.q ≡ d.q)
   judge-shown r d lawful weighed e s =
       let c = counted-some (judge_found K a b r d) w n e in
@@ -129,7 +129,7 @@ module _ {C : Type 0} (K : Kind C) (a b : ℕ) (w n : ℕ) (was strip : List ℕ
         fit.0,
       )
 
-  pub compare-shown : (d e : Weights K.group.Carrier) → Weighed d → Weighed e → Ok (Some (w, n)) ≡ counted (compare_found K a b d e) →
+  pub compare-shown : (d e : Weights K.group.Carrier) → Weighed d → Weighed e → Ok (Some (w, n)) ≡ with_length (compare_found K a b d e) →
       strip ≡ front (ring_written (compare_found K a b d e)) was → Shown d.q (compare_found K a b d e) w n strip × (d.q ≡ e.q)
   compare-shown d e weighed weighed' h s =
       let c = counted-some (compare_found K a b d e) w n h in
@@ -143,20 +143,20 @@ module _ {C : Type 0} (K : Kind C) (a b : ℕ) (w n : ℕ) (was strip : List ℕ
 
 -- the part of the strip that is the ring
 module _ {q : ℕ} {found : Result (Option (ℕ × List ℕ)) Refusal} {w n : ℕ} {strip : List ℕ} (s : Shown q found w n strip) where
-  pub shown-fits : Ring q (take n strip)
+  pub shown-fits : ShownRing q (take n strip)
   shown-fits =
       let size = ap length s.part ∙ s.size in
       (omega (arith, s.some, size), omega (arith, s.most, size), subst (Letters q) (sym s.part) s.letters)
 
 -- a ring that may be shown has its total, and its next ring
 module _ {C : Type 0} (K : Kind C) (d : Weights K.group.Carrier) where
-  pub total_is : (ring : List ℕ) → Ring d.q ring → and_then (ring_checked d.q (length ring) ring) (λ c. Ok (total K.group d c)) ≡ Ok (total K.group d ring)
+  pub total_is : (ring : List ℕ) → ShownRing d.q ring → and_then (ring_checked d.q (length ring) ring) (λ c. Ok (total K.group d c)) ≡ Ok (total K.group d ring)
   total_is ring shows = ap (λ t. and_then t (λ c. Ok (total K.group d c))) (ring_ready d.q (length ring) ring shows.0 (omega (arith, shows.1)) (omega arith) shows.2)
 
-  pub not-refused : (ring : List ℕ) → Ring d.q ring → (f : Refusal) → Err f ≡ and_then (ring_checked d.q (length ring) ring) (λ c. Ok (total K.group d c)) → ⊥
+  pub not-refused : (ring : List ℕ) → ShownRing d.q ring → (f : Refusal) → Err f ≡ and_then (ring_checked d.q (length ring) ring) (λ c. Ok (total K.group d c)) → ⊥
   not-refused ring shows f e = let clash : Err f ≡ Ok (total K.group d ring) = e ∙ total_is ring shows in grind arith
 
-module _ (r : Local) (ring : List ℕ) (shows : Ring r.q ring) (was : List ℕ) (long : length was ≡ 23) where
+module _ (r : Local) (ring : List ℕ) (shows : ShownRing r.q ring) (was : List ℕ) (long : length was ≡ 23) where
   ready : ring_checked r.q (length was) ring ≡ Ok ring
   ready = ring_ready r.q (length was) ring shows.0 (omega (arith, shows.1)) (omega (arith, shows.1)) shows.2
 
@@ -168,7 +168,7 @@ module _ (r : Local) (ring : List ℕ) (shows : Ring r.q ring) (was : List ℕ) 
       ap (take (length ring)) (e ∙ ap (strip_after (next r) was) ready)
       ∙ take_at (next r ring) (drop (length (next r ring)) was) (length ring) (omega (arith, length-next r ring))
 
-  pub next-shows : Lawful r → Ring r.q (next r ring)
+  pub next-shows : Lawful r → ShownRing r.q (next r ring)
   next-shows lawful =
       (omega (arith, length-next r ring, shows.0), omega (arith, length-next r ring, shows.1), (next_word r ring (omega (arith, lawful.sizes.0)) lawful.letters).1)
 
@@ -178,4 +178,4 @@ module _ (r : Local) (ring : List ℕ) (shows : Ring r.q ring) (was : List ℕ) 
   later_is K d lawful alphabet strip e =
       let part = next-part strip e in
       ap (λ c. and_then (ring_checked d.q (length c) c) (λ c. Ok (total K.group d c))) part
-      ∙ total_is K d (next r ring) (subst (λ (q : ℕ). Ring q (next r ring)) alphabet (next-shows lawful))
+      ∙ total_is K d (next r ring) (subst (λ (q : ℕ). ShownRing q (next r ring)) alphabet (next-shows lawful))

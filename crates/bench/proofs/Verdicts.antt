@@ -3,7 +3,8 @@ use Rattle.std.proofs.Common.{◌≡◌, ℕ, suc, ◌+◌, ◌-◌, ◌<◌, �
 use Rattle.charge.specs.Groups.{Group, minus}
 use Rattle.charge.proofs.Sums.{same_from-minus, minus_from-same}
 use Rattle.automaton.specs.Meanings.{Local, Weights, next, total}
-use Rattle.criterion.specs.Balance.{ring_sum, Holds}
+use Rattle.criterion.specs.Balance.{ring_sum}
+use Rattle.criterion.proofs.Statements.{Holds}
 use Rattle.criterion.proofs.Criterion.{criterion}
 use Rattle.bench.specs.Labels.{rule_label, two_label}
 use Rattle.bench.specs.Laws.{KeepsTotal, SameTotals}

@@ -9,6 +9,7 @@ use Rattle.bench.specs.declared.sizes.RuleSizes.{RuleSizes}
 use Rattle.bench.specs.declared.sizes.TwoSizes.{TwoSizes}
 use Rattle.bench.specs.Labels.{next_letters, listed}
 
+-- a rule or a density with the sizes that a label keeps
 abbrev pub sized_rule : RuleSizes → Local → Local
 sized_rule s r = record { q = s.words.q; n = s.n; l = s.l; answers = r.answers }
 

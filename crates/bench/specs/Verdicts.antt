@@ -21,17 +21,19 @@ pub record Broken (A : Type 0) : Type 0 where
   pub first : A
   pub second : A
 
+-- what judging says
 pub data Judgement (A : Type 0) : Type 0 where
   holds : Judgement A
   breaks : Broken A → Judgement A
 
+-- what comparing says
 pub data Comparison (A : Type 0) : Type 0 where
   agree : Comparison A
   differ : Broken A → Comparison A
 
 -- a ring that may be shown: of letters below q, with at least one cell and at most as many as any has that is shown
-abbrev pub Ring : ℕ → List ℕ → Type 0
-Ring q c = (1 ≤ length c) × (length c ≤ most_shown) × Letters q c
+abbrev pub ShownRing : ℕ → List ℕ → Type 0
+ShownRing q c = (1 ≤ length c) × (length c ≤ most_shown) × Letters q c
 
 -- the totals of the ring that shows a failing word
 abbrev pub broken : {A : Type 0} → (List ℕ → A) → (List ℕ → A) → ℕ × List ℕ → Broken A

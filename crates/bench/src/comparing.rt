@@ -1,7 +1,7 @@
 // Two densities, compared by their totals.
 ghost use Rattle.std.specs.Prelude.{◌≡◌, length};
 ghost use Rattle.fault.specs.Answers.{front};
-ghost use Rattle.criterion.specs.Answers.{seen, counted, ring_written};
+ghost use Rattle.criterion.specs.Answers.{seen, with_length, ring_written};
 ghost use Rattle.criterion.specs.Strips.{FrontMeans};
 ghost use Rattle.bench.specs.Answers.{compare_said};
 ghost use Rattle.bench.specs.Laws.{ComparisonRight, ComparisonWhole};
@@ -22,7 +22,7 @@ fn compare_words<C: Charge, D: Density<C>, E: Density<C>>(
     crossings: &mut [C],
     ring: &mut [u8],
 ) -> Result<Option<Failure>, Fault>
-    ensures answer { seen result ≡ counted (compare_found C.kind (length crossings.old) (length ring.old) (D.weights C.kind first.now) (E.weights C.kind second.now)) }
+    ensures answer { seen result ≡ with_length (compare_found C.kind (length crossings.old) (length ring.old) (D.weights C.kind first.now) (E.weights C.kind second.now)) }
     ensures crossings { FrontMeans C.kind (compare_crossings C.kind (length crossings.old) (length ring.old) (D.weights C.kind first.now) (E.weights C.kind second.now)) crossings.old crossings.new }
     ensures ring { ring.new ≡ front (ring_written (compare_found C.kind (length crossings.old) (length ring.old) (D.weights C.kind first.now) (E.weights C.kind second.now))) ring.old }
 {

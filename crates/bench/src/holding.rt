@@ -1,8 +1,7 @@
 // What a bench that holds is asked by a player.
 ghost use Rattle.std.specs.Prelude.{◌≡◌, ◌+◌, ◌-◌, ◌≤◌, length, slice_index_or};
 ghost use Rattle.automaton.specs.Words.{code, window, cell, before};
-ghost use Rattle.criterion.specs.Search.{padding};
-ghost use Rattle.criterion.specs.Search.{crossings as crossings_of};
+ghost use Rattle.criterion.specs.Search.{padding, crossings as crossings_of};
 ghost use Rattle.bench.specs.Labels.{rule_label_list};
 ghost use Rattle.bench.specs.Sized.{KnowsNext};
 

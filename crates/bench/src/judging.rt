@@ -7,11 +7,11 @@ ghost use Rattle.std.specs.Option.{option_map};
 ghost use Rattle.automaton.specs.Making.{charged};
 ghost use Rattle.automaton.specs.Meanings.{next};
 ghost use Rattle.automaton.specs.Meanings.{total as total_of};
-ghost use Rattle.criterion.specs.Answers.{seen, counted, ring_written};
+ghost use Rattle.criterion.specs.Answers.{seen, with_length, ring_written};
 ghost use Rattle.criterion.specs.Strips.{FrontMeans};
 ghost use Rattle.bench.specs.Answers.{breaks_mean, verdict_means, verdict_parts, judge_said, draft_said, found_said, broken_said};
 ghost use Rattle.bench.specs.Laws.{VerdictRight, VerdictWhole};
-ghost use Rattle.bench.specs.Verdicts.{Ring, bench_checked, judge_found, judge_crossings, judging, broken, verdict_of};
+ghost use Rattle.bench.specs.Verdicts.{ShownRing, bench_checked, judge_found, judge_crossings, judging, broken, verdict_of};
 
 use crate::next_words::NextWords;
 use crate::rule_label::RuleLabel;
@@ -63,7 +63,7 @@ impl<C: Charge, R: Rule, D: Density<C>> Draft<C, R, D> {
 
     // The total after one step of a ring that may be shown.
     fn later_total(&self, ring: &[u8]) -> Result<C, Fault>
-        requires { Ring (R.meaning self.now.parts.rule).q ring.now }
+        requires { ShownRing (R.meaning self.now.parts.rule).q ring.now }
         ensures { charged C.kind result ≡ Ok (total_of C.kind.group (D.weights C.kind self.now.parts.density) (next (R.meaning self.now.parts.rule) ring.now)) }
     {
         let mut strip = [0u8; MOST_SHOWN];
@@ -73,7 +73,7 @@ impl<C: Charge, R: Rule, D: Density<C>> Draft<C, R, D> {
 
     // The break by a failing word and the ring that shows it, with the totals before and after one step.
     fn break_on(&self, word: usize, ring: &[u8]) -> Result<Break<C>, Fault>
-        requires { Ring (R.meaning self.now.parts.rule).q ring.now }
+        requires { ShownRing (R.meaning self.now.parts.rule).q ring.now }
         ensures { broken_said C.kind result ≡ Ok (broken (total_of C.kind.group (D.weights C.kind self.now.parts.density)) (λ c. total_of C.kind.group (D.weights C.kind self.now.parts.density) (next (R.meaning self.now.parts.rule) c)) (word, ring.now)) }
     {
         Ok(Break {
@@ -88,7 +88,7 @@ impl<C: Charge, R: Rule, D: Density<C>> Draft<C, R, D> {
     // word's label is asked for more than once. The two strips make no struct: clauses would reach each of them through two
     // references.
     fn judge_words(&self, crossings: &mut [C], ring: &mut [u8]) -> Result<Option<Failure>, Fault>
-        ensures answer { seen result ≡ counted (judge_found C.kind (length crossings.old) (length ring.old) (R.meaning self.now.parts.rule) (D.weights C.kind self.now.parts.density)) }
+        ensures answer { seen result ≡ with_length (judge_found C.kind (length crossings.old) (length ring.old) (R.meaning self.now.parts.rule) (D.weights C.kind self.now.parts.density)) }
         ensures crossings { FrontMeans C.kind (judge_crossings C.kind (length crossings.old) (length ring.old) (R.meaning self.now.parts.rule) (D.weights C.kind self.now.parts.density)) crossings.old crossings.new }
         ensures ring { ring.new ≡ front (ring_written (judge_found C.kind (length crossings.old) (length ring.old) (R.meaning self.now.parts.rule) (D.weights C.kind self.now.parts.density))) ring.old }
     {

@@ -58,10 +58,10 @@ module _ {C : Type 0} (K : Kind C) (h : Header) (letters : List ℕ) (charges : 
         charges = charges;
         sent = sent;
         verdict = verdict;
-        verdict_is = record { said = is.said; right = is.right };
+        verdict_is = is.is;
         told = told;
         crossed = take count now;
-        meant = ap (λ n. map K.means (take n now)) (counted K (rule_label_list K.group r' d) (total K.group d) (λ c. total K.group d (next r' c)) (preset_found K (length old) (length strip) h letters charges) verdict count is.said many) ∙ is.crossed.0;
+        meant = ap (λ n. map K.means (take n now)) (counted K (rule_label_list K.group r' d) (total K.group d) (λ c. total K.group d (next r' c)) (preset_found K (length old) (length strip) h letters charges) verdict count is.is.said many) ∙ is.crossed.0;
         written = written;
         shown = is.shown;
       }

@@ -1,4 +1,4 @@
-pub mod Clean
+pub mod Zeroed
 pub mod Judged
 pub mod Loads
 pub mod Performed

@@ -22,6 +22,7 @@ abbrev pub read_answer : Result Header Refusal → ReadAnswer
 read_answer (Ok h) = record { code = 0; place = 0; header = h }
 read_answer (Err f) = record { code = f.0; place = f.1; header = no_header }
 
+-- a verdict without a break, or a refusal
 abbrev pub unbroken : ℕ → ℕ → JudgeAnswer
 unbroken code place = record { code = code; breaks = false; place = place; word = 0; len = 0; before = no_entry; after = no_entry }
 
@@ -34,14 +35,15 @@ judge_answer (Ok None) = unbroken 0 0
 judge_answer (Ok (Some b)) = broken b
 judge_answer (Err f) = unbroken f.0 f.1
 
-abbrev pub unread : ℕ → ℕ → ℕ → ScriptAnswer
-unread answer code place =
+-- an answer without a reading
+abbrev pub no_reading : ℕ → ℕ → ℕ → ScriptAnswer
+no_reading answer code place =
     record { answer = answer; code = code; place = place; opening = no_entry; crossed = no_entry; touched = no_entry; now = no_entry }
 
 -- 0 is no answer, 1 that the call is done, 2 a reading, and 3 a refusal
 abbrev pub script_answer : {C : Type 0} → Sending C → Option (Answer C) → ScriptAnswer
-script_answer S None = unread 0 0 0
-script_answer S (Some Done) = unread 1 0 0
+script_answer S None = no_reading 0 0 0
+script_answer S (Some Done) = no_reading 1 0 0
 script_answer S (Some (Reading m)) =
     record { answer = 2; code = 0; place = 0; opening = S.entry m.opening; crossed = S.entry m.crossed; touched = S.entry m.touched; now = S.entry m.now }
-script_answer S (Some (Refused f)) = unread 3 (refusal f).0 (refusal f).1
+script_answer S (Some (Refused f)) = no_reading 3 (refusal f).0 (refusal f).1

@@ -1,8 +1,7 @@
 -- What judging a preset answers and writes. Assumes nothing.
 use Rattle.std.specs.Prelude.{◌≡◌, ℕ, List, map, length, Ok, Err, Option, Result}
-use Rattle.std.specs.Option.{option_map}
 use Rattle.fault.specs.declared.Fault.{Fault}
-use Rattle.fault.specs.Answers.{and_then, plainly, front}
+use Rattle.fault.specs.Answers.{plainly, front}
 use Rattle.fault.specs.Refusals.{Refusal}
 use Rattle.charge.specs.Groups.{Kind}
 use Rattle.charge.specs.Kinds.{voices, pitch, channels, both}
@@ -16,19 +15,15 @@ use Rattle.preset.specs.Sending.{Sending, voices_sending, pitch_sending, channel
 use Rattle.preset.specs.declared.entry.Entry.{Entry}
 use Rattle.preset.specs.declared.header.Header.{Header}
 use Rattle.bench.specs.declared.state.Break.{Break}
-use Rattle.bench.specs.Answers.{found_said}
 use Rattle.bench.specs.Labels.{rule_label_list}
 use Rattle.bench.specs.Laws.{VerdictRight}
-use Rattle.bench.specs.Verdicts.{broken}
-use Rattle.preset_bench.specs.Finds.{preset_rule, preset_density, preset_found, sent_found}
+use Rattle.preset_bench.specs.Finds.{FoundIs, preset_rule, preset_density, preset_found, sent_found}
 use Rattle.capi.specs.declared.answers.JudgeAnswer.{JudgeAnswer}
 use Rattle.capi.specs.Answers.{judge_answer}
 
--- A verdict that means what was found for a rule and a density, with the totals of the ring shown, and what is right of
--- all rings.
-pub record VerdictIs {C : Type 0} (K : Kind C) (r : Local) (d : Weights K.group.Carrier) (found : Result (Option (ℕ × List ℕ)) Refusal) (verdict : Result (Option (Break C)) Fault) : Type 0 where
-  pub said : found_said K verdict ≡ and_then found (λ f. Ok (option_map (broken (total K.group d) (λ c. total K.group d (next r c))) f))
-  pub right : VerdictRight K r d found
+-- a verdict of a rule under a density
+abbrev pub VerdictIs : {C : Type 0} (K : Kind C) → Local → Weights K.group.Carrier → Result (Option (ℕ × List ℕ)) Refusal → Result (Option (Break C)) Fault → Type 0
+VerdictIs K r d = FoundIs K (total K.group d) (λ c. total K.group d (next r c)) (VerdictRight K r d)
 
 -- what C is told of a verdict
 abbrev pub told_of : {C : Type 0} → Sending C → Result (Option (Break C)) Fault → JudgeAnswer

@@ -26,7 +26,7 @@ use Rattle.capi.specs.declared.answers.JudgeAnswer.{JudgeAnswer}
 use Rattle.capi.specs.declared.answers.ScriptAnswer.{ScriptAnswer}
 use Rattle.capi.specs.Answers.{judge_answer, script_answer}
 use Rattle.capi.specs.Judging.{VerdictIs, told_of}
-use Rattle.capi.specs.Scripts.{Asking, clean, session}
+use Rattle.capi.specs.Scripts.{Asking, zeroed, session}
 
 module _ {C : Type 0} (K : Kind C) (S : Sending C) (r : Local) (d : Weights K.group.Carrier) (handed : Strips K.group.Carrier) (script : List Asking) where
   -- some answers that are the session's stand at the front of the strip of answers, and the cells are the session's
@@ -66,15 +66,15 @@ module _ {C : Type 0} (K : Kind C) (S : Sending C) (h : Header) (letters : List 
     pub told : answer ≡ told_of S verdict
 
 -- with strips of zeros for all but the cells
-abbrev pub PlayedClean : {C : Type 0} → Kind C → Sending C → Header → List ℕ → List Entry → List Asking → List ℕ → List ℕ → List ScriptAnswer → List ScriptAnswer → JudgeAnswer → Type 0
-PlayedClean K S h letters entries script cells left old new = PlayedOn K S h letters entries script left old new (clean K cells)
+abbrev pub PlayedZeroed : {C : Type 0} → Kind C → Sending C → Header → List ℕ → List Entry → List Asking → List ℕ → List ℕ → List ScriptAnswer → List ScriptAnswer → JudgeAnswer → Type 0
+PlayedZeroed K S h letters entries script cells left old new = PlayedOn K S h letters entries script left old new (zeroed K cells)
 
 -- of any kind
 abbrev pub PlayedAs : ChargeKind → Header → List ℕ → List Entry → List Asking → List ℕ → List ℕ → List ScriptAnswer → List ScriptAnswer → JudgeAnswer → Type 0
-PlayedAs Voices = PlayedClean voices voices_sending
-PlayedAs Pitch = PlayedClean pitch pitch_sending
-PlayedAs Channels = PlayedClean channels channels_sending
-PlayedAs Both = PlayedClean both both_sending
+PlayedAs Voices = PlayedZeroed voices voices_sending
+PlayedAs Pitch = PlayedZeroed pitch pitch_sending
+PlayedAs Channels = PlayedZeroed channels channels_sending
+PlayedAs Both = PlayedZeroed both both_sending
 
 -- of some bytes, by what reading them as a preset answers; a refusal writes nothing
 abbrev pub PlayTells : Result Preset Refusal → List Asking → List ℕ → List ℕ → List ScriptAnswer → List ScriptAnswer → JudgeAnswer → Type 0

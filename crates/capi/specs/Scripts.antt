@@ -45,8 +45,8 @@ abbrev pub unplayed : {A : Type 0} → Played A → Option (Answer A) → Played
 unplayed p a = record { log = p.log; strips = p.strips; said = p.said ++ (a ∷ []) }
 
 -- strips with the caller's cells; the others are of zeros and as long as the longest ring
-abbrev pub clean : {C : Type 0} → (K : Kind C) → List ℕ → Strips K.group.Carrier
-clean K cells = record {
+abbrev pub zeroed : {C : Type 0} → (K : Kind C) → List ℕ → Strips K.group.Carrier
+zeroed K cells = record {
   cells = cells;
   spare = replicate most_cells 0;
   opening = replicate most_cells K.group.zero;

@@ -5,7 +5,7 @@ ghost use Rattle.fault.specs.Answers.{plainly};
 ghost use Rattle.fault.specs.Refusals.{refusal};
 ghost use Rattle.player.specs.declared.call.Answer.TheVariants.{Reading as Reading_of};
 ghost use Rattle.preset_bench.specs.Finds.{sent_found};
-ghost use Rattle.capi.specs.Answers.{read_answer, unbroken, broken, judge_answer, unread, script_answer};
+ghost use Rattle.capi.specs.Answers.{read_answer, unbroken, broken, judge_answer, no_reading, script_answer};
 
 use bench::Break;
 use fault::Fault;
@@ -138,8 +138,8 @@ pub(crate) fn judge_answer<C: Sent>(found: Result<Option<Break<C>>, Fault>) -> J
 }
 
 // An answer with no reading.
-fn unread(answer: u32, code: u32, place: usize) -> ScriptAnswer
-    ensures { result ≡ unread answer code place }
+fn no_reading(answer: u32, code: u32, place: usize) -> ScriptAnswer
+    ensures { result ≡ no_reading answer code place }
 {
     ScriptAnswer {
         answer,
@@ -172,10 +172,10 @@ pub(crate) fn script_answer<C: Sent>(answer: Option<Answer<C>>) -> ScriptAnswer
     ensures { result ≡ script_answer C.sending answer }
 {
     match answer {
-        None => unread(ANSWER_NONE, 0, 0),
-        Some(Answer::Done) => unread(ANSWER_DONE, 0, 0),
+        None => no_reading(ANSWER_NONE, 0, 0),
+        Some(Answer::Done) => no_reading(ANSWER_DONE, 0, 0),
         Some(Answer::Reading(reading)) => read(reading),
-        Some(Answer::Refused(fault)) => unread(
+        Some(Answer::Refused(fault)) => no_reading(
             ANSWER_REFUSED,
             fault.stop.code() as u32,
             fault.place,

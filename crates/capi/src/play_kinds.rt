@@ -5,7 +5,7 @@ ghost use Rattle.charge.specs.Kinds.{voices, pitch, channels, both};
 ghost use Rattle.charge.specs.declared.kind.ChargeKind.TheVariants as kind;
 ghost use Rattle.preset.specs.Sending.{voices_sending, pitch_sending, channels_sending, both_sending};
 ghost use Rattle.capi.specs.Scripts.{script_call};
-ghost use Rattle.capi.specs.Playing.{PlayedClean, PlayedAs};
+ghost use Rattle.capi.specs.Playing.{PlayedZeroed, PlayedAs};
 
 use crate::answers::{JudgeAnswer, ScriptAnswer};
 use crate::play_charges::play_charges;
@@ -22,7 +22,7 @@ fn play_voices(
     answers: &mut [ScriptAnswer],
 ) -> JudgeAnswer
     requires { preset.kind ≡ kind.Voices }
-    ensures { PlayedClean voices voices_sending preset.entry.header preset.entry.letters.now preset.entry.entries.now (map (script_call rings.now) script.now) cells.old cells.new answers.old answers.new result }
+    ensures { PlayedZeroed voices voices_sending preset.entry.header preset.entry.letters.now preset.entry.entries.now (map (script_call rings.now) script.now) cells.old cells.new answers.old answers.new result }
 {
     let zero = Voices::zero();
     play_charges(
@@ -48,7 +48,7 @@ fn play_pitch(
     answers: &mut [ScriptAnswer],
 ) -> JudgeAnswer
     requires { preset.kind ≡ kind.Pitch }
-    ensures { PlayedClean pitch pitch_sending preset.entry.header preset.entry.letters.now preset.entry.entries.now (map (script_call rings.now) script.now) cells.old cells.new answers.old answers.new result }
+    ensures { PlayedZeroed pitch pitch_sending preset.entry.header preset.entry.letters.now preset.entry.entries.now (map (script_call rings.now) script.now) cells.old cells.new answers.old answers.new result }
 {
     let zero = Pitch::zero();
     play_charges(
@@ -74,7 +74,7 @@ fn play_channels(
     answers: &mut [ScriptAnswer],
 ) -> JudgeAnswer
     requires { preset.kind ≡ kind.Channels }
-    ensures { PlayedClean channels channels_sending preset.entry.header preset.entry.letters.now preset.entry.entries.now (map (script_call rings.now) script.now) cells.old cells.new answers.old answers.new result }
+    ensures { PlayedZeroed channels channels_sending preset.entry.header preset.entry.letters.now preset.entry.entries.now (map (script_call rings.now) script.now) cells.old cells.new answers.old answers.new result }
 {
     let zero = Channels::zero();
     play_charges(
@@ -100,7 +100,7 @@ fn play_both(
     answers: &mut [ScriptAnswer],
 ) -> JudgeAnswer
     requires { preset.kind ≡ kind.Both }
-    ensures { PlayedClean both both_sending preset.entry.header preset.entry.letters.now preset.entry.entries.now (map (script_call rings.now) script.now) cells.old cells.new answers.old answers.new result }
+    ensures { PlayedZeroed both both_sending preset.entry.header preset.entry.letters.now preset.entry.entries.now (map (script_call rings.now) script.now) cells.old cells.new answers.old answers.new result }
 {
     let zero = Both::zero();
     play_charges(

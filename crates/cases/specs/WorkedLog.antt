@@ -1,4 +1,4 @@
--- Rule 184 under the density that counts letters, opened on 1100, stepped, read and touched, with refused calls in between. Assumes nothing.
+-- A log of rule 184 under the density that counts letters: a ring opened on 1100, stepped, read and touched, and then a ring of one cell, with refused calls between. Assumes nothing.
 use Rattle.std.specs.Prelude.{◌≡◌, ℕ, List, [], ◌∷◌, ◌++◌, map, Ok}
 use Rattle.fault.specs.declared.Stop.TheVariants.{BadLength, ShortStrip, BadPosition, BadLetter}
 use Rattle.fault.specs.Refusals.{refused_at}
@@ -13,7 +13,7 @@ use Rattle.player.specs.Logs.{Line, Log, OnEveryLine, WithoutGaps, LineTrue}
 use Rattle.player.specs.Logs.Log.{made, ◌then◌}
 use Rattle.cases.specs.Examples.{Count, count, elementary, letter_count}
 
--- strips that are longer than the ring, with something past its end
+-- strips as long as the ring or longer; what stands past the ring stays
 abbrev pub blank : Strips Count
 blank = record {
   cells = 9 ∷ 9 ∷ 9 ∷ 9 ∷ 7 ∷ [];

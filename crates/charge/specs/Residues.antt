@@ -18,6 +18,7 @@ pub record Below (n : ℕ) : Type 0 where
 pub below_eq : {n : ℕ} (a b : Below n) → a.value ≡ b.value → a ≡ b
 below_eq {n} a b e = λ i. record { value = e i; less = is_prop→PathP (λ j. e j < n) (λ j. le_prop) a.less b.less i }
 
+-- the test of equality of two such numbers
 abbrev pub same_below : {n : ℕ} → Below n → Below n → Bool
 same_below a b = a.value == b.value
 

@@ -6,7 +6,8 @@ use Rattle.charge.specs.Groups.{Kind, minus}
 use Rattle.automaton.specs.Words.{Word, word}
 use Rattle.automaton.specs.Meanings.{Weights, Weighed, weight}
 use Rattle.automaton.proofs.Codes.{word-word, every-word}
-use Rattle.criterion.specs.Balance.{ring_sum, Balanced, Holds, ring_a, ring_b, SumsToZero}
+use Rattle.criterion.specs.Balance.{ring_sum, Balanced, ring_a, ring_b, SumsToZero}
+use Rattle.criterion.proofs.Statements.{Holds}
 use Rattle.criterion.specs.Search.{first_of, J, fails, failing, sums_to_zero, shown}
 use Rattle.criterion.specs.Laws.{Exact, BreakingRing, Shows, LabelLaw}
 use Rattle.criterion.proofs.Criterion.{criterion, break_shown}

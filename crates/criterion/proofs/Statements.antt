@@ -2,7 +2,11 @@
 use Rattle.std.proofs.Common.{◌≡◌, ℕ, suc, ◌+◌, ◌*◌, ◌<◌, ◌≤◌, ◌↔◌, List}
 use Rattle.charge.specs.Groups.{Group}
 use Rattle.automaton.specs.Words.{Word, repeated}
-use Rattle.criterion.specs.Balance.{ring_sum, SumsToZero, crossing, Balanced, Balances, Holds, ring_a, ring_b}
+use Rattle.criterion.specs.Balance.{ring_sum, SumsToZero, crossing, Balanced, Balances, ring_a, ring_b}
+
+-- no word fails
+abbrev pub Holds : (G : Group) → (List ℕ → G.Carrier) → ℕ → ℕ → ℕ → Type 0
+Holds G d z q r = Balances G d q r (crossing G d z r)
 
 -- no word fails exactly when the label sums to zero on the rings of every length
 abbrev pub Criterion : (G : Group) → ℕ → Type 0

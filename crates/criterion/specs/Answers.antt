@@ -8,14 +8,15 @@ use Rattle.automaton.specs.Meanings.{Weights}
 use Rattle.criterion.specs.Search.{crossings, failure, with_room}
 use Rattle.criterion.specs.declared.search.Failure.{Failure}
 
--- the failing word's code and the length of the ring that shows it, of an answer and of what is defined
+-- the failing word's code and the length of the ring that shows it
 abbrev pub seen : Result (Option Failure) Fault → Result (Option (ℕ × ℕ)) Refusal
 seen (Ok found) = Ok (option_map (λ f. (f.word, f.len)) found)
 seen (Err f) = Err (refusal f)
 
-abbrev pub counted : Result (Option (ℕ × List ℕ)) Refusal → Result (Option (ℕ × ℕ)) Refusal
-counted (Ok found) = Ok (option_map (λ f. (f.0, length f.1)) found)
-counted (Err f) = Err f
+-- the same of what is defined: the code, and the length of the ring
+abbrev pub with_length : Result (Option (ℕ × List ℕ)) Refusal → Result (Option (ℕ × ℕ)) Refusal
+with_length (Ok found) = Ok (option_map (λ f. (f.0, length f.1)) found)
+with_length (Err f) = Err f
 
 -- the ring that is written: none where the call is refused or no word fails
 abbrev pub ring_written : Result (Option (ℕ × List ℕ)) Refusal → List ℕ

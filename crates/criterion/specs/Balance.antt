@@ -35,10 +35,6 @@ OnlyTable G d z q r J =
     × (J (repeated z r) ≡ G.zero)
     × ((T : List ℕ → G.Carrier) → Balances G d q r T → T (repeated z r) ≡ G.zero → (v : List ℕ) → Word q r v → T v ≡ J v)
 
--- no word fails
-abbrev pub Holds : (G : Group) → (List ℕ → G.Carrier) → ℕ → ℕ → ℕ → Type 0
-Holds G d z q r = Balances G d q r (crossing G d z r)
-
 -- the two rings that a failing word is tried on: the word and r letters z, and that without its first letter
 abbrev pub ring_a : ℕ → ℕ → List ℕ → List ℕ
 ring_a z r w = w ++ repeated z r

@@ -2,7 +2,7 @@
 ghost use Rattle.std.specs.Prelude.{◌≡◌, ◌+◌, ◌-◌, ◌*◌, ◌/◌, ◌%◌, ◌^◌, ◌<◌, ◌≤◌, map, length, Decides, slice_index_or};
 ghost use Rattle.fault.specs.Answers.{plainly, front};
 ghost use Rattle.automaton.specs.Words.{word};
-ghost use Rattle.criterion.specs.Answers.{seen, counted, examined, crossings_written, ring_written};
+ghost use Rattle.criterion.specs.Answers.{seen, with_length, examined, crossings_written, ring_written};
 ghost use Rattle.criterion.specs.Search.{padding, failing, with_room};
 ghost use Rattle.criterion.specs.Search.{crossings as crossings_of};
 ghost use Rattle.criterion.specs.Search.{fails as fails_at};
@@ -92,7 +92,7 @@ pub fn examine<C: Charge, L: Label<C>>(
     crossings: &mut [C],
     ring: &mut [u8],
 ) -> Result<Option<Failure>, Fault>
-    ensures answer { seen result ≡ counted (examined C.kind padding (L.labels C.kind label.now) (length crossings.old) (length ring.old)) }
+    ensures answer { seen result ≡ with_length (examined C.kind padding (L.labels C.kind label.now) (length crossings.old) (length ring.old)) }
     ensures crossings { FrontMeans C.kind (crossings_written C.kind padding (L.labels C.kind label.now) (length crossings.old) (length ring.old)) crossings.old crossings.new }
     ensures ring { ring.new ≡ front (ring_written (examined C.kind padding (L.labels C.kind label.now) (length crossings.old) (length ring.old))) ring.old }
     ensures law { LabelLaw C.kind padding (L.labels C.kind label.now) }

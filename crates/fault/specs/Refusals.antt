@@ -4,6 +4,7 @@ use Rattle.fault.specs.declared.Fault.{Fault}
 use Rattle.fault.specs.declared.Stop.{Stop}
 use Rattle.fault.specs.declared.Stop.TheVariants.{CutShort, Misspelt, UnknownKind, BadAlphabet, BadWindow, BadReach, BadWidth, AlphabetsDiffer, TooManyWords, SurplusBytes, BadLength, ShortStrip, BadPosition, BadLetter, BadEntry}
 
+-- the number of a stop code
 abbrev pub code_of : Stop → ℕ
 code_of CutShort = 1
 code_of Misspelt = 2
@@ -21,6 +22,7 @@ code_of BadPosition = 13
 code_of BadLetter = 14
 code_of BadEntry = 15
 
+-- what it says, in words
 abbrev pub reason_of : Stop → List ℕ
 reason_of CutShort = codes "the bytes end where a number is due"
 reason_of Misspelt = codes "a number is misspelt"
@@ -42,9 +44,11 @@ reason_of BadEntry = codes "an entry is outside the range of its kind"
 abbrev pub Refusal : Type 0
 Refusal = ℕ × ℕ
 
+-- the refusal by a stop code at a place
 abbrev pub refused_at : Stop → ℕ → Refusal
 refused_at stop place = (code_of stop, place)
 
+-- a fault as plain numbers
 abbrev pub refusal : Fault → Refusal
 refusal f = refused_at f.stop f.place
 

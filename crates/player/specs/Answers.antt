@@ -57,11 +57,12 @@ module _ {C : Type 0} (K : Kind C) where
   open_said (Ok p) = done
   open_said (Err e) = refused (refusal e.fault)
 
--- how many cells the ring has that is open on a bench, none where none is open, and what is kept of the bench
+-- how many cells the open ring has, 0 where none is open
 abbrev pub open_cells : {H P : Type 0} → (P → ℕ) → Player H P → ℕ
 open_cells cells (Idle h) = 0
 open_cells cells (Playing p) = cells p
 
+-- what is kept of the bench, by those of each state
 abbrev pub of_player : {H P X : Type 0} → (H → X) → (P → X) → Player H P → X
 of_player of_idle of_playing (Idle h) = of_idle h
 of_player of_idle of_playing (Playing p) = of_playing p

@@ -1,5 +1,5 @@
 -- The calls of a player: when each is refused, what it makes of a ring and its strips, and what it answers. Assumes nothing.
-use Rattle.std.specs.Prelude.{◌≡◌, ℕ, suc, ◌+◌, ◌-◌, Bool, ltb, List, [], ◌∷◌, ◌++◌, length, take, drop, set, min, Ok, Err, Result, nat_le, nat_lt, slice_index_or}
+use Rattle.std.specs.Prelude.{◌≡◌, ℕ, suc, ◌+◌, ◌-◌, Bool, List, [], ◌∷◌, ◌++◌, length, take, drop, set, min, Ok, Err, Result, nat_le, nat_lt, slice_index_or}
 use Rattle.fault.specs.declared.Stop.{Stop}
 use Rattle.fault.specs.declared.Stop.TheVariants.{BadLength, ShortStrip, BadPosition, BadLetter}
 use Rattle.fault.specs.Answers.{and_then}
@@ -73,7 +73,7 @@ letters L closes s = []
 
 -- the refusal of a call, if there is one, by the strips that it is handed
 abbrev pub checked : {A : Type 0} → ℕ → ℕ → Call → Strips A → Result (Unit {0}) Refusal
-checked q L call s = and_then (tested (tests L call s)) (λ _. each_fits (λ a. ltb a q) BadLetter 0 (letters L call s))
+checked q L call s = and_then (tested (tests L call s)) (λ _. each_fits (λ a. nat_lt a q) BadLetter 0 (letters L call s))
 
 -- x where a call has passed its tests, and y of its refusal otherwise
 abbrev pub passed_or : {X : Type 0} → Result (Unit {0}) Refusal → X → (Refusal → X) → X

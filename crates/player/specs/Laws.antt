@@ -50,6 +50,7 @@ LowestOf Fit (Ok t) = (f : Refusal) → Fit f → ⊥
 LowestOf Fit (Err f) = Fit f × ((g : Refusal) → Fit g → f.0 ≤ g.0)
 
 module _ {C : Type 0} (K : Kind C) where
+  -- what a call is refused by is the lowest that fits
   abbrev pub RefusalsFit : Type 0
   RefusalsFit = (q L : ℕ) (call : Call) (s : Strips K.group.Carrier) → LowestOf (Fits q L call s) (checked q L call s)
 

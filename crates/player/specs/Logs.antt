@@ -25,7 +25,7 @@ pub data Log (A : Type 0) : Type 0 where
 abbrev pub no_ring : {A : Type 0} → Ring A
 no_ring = record { cells = []; opening = []; crossed = []; touched = [] }
 
--- the states allow open while no ring is open, one of no cells, and the other calls while a ring of L cells is
+-- L is how many cells the open ring has, 0 where none is open: the states allow open at 0, and the other calls above 0
 abbrev pub allowed : Call → ℕ → Bool
 allowed (opens ring) L = nat_eq L 0
 allowed (touches i a) L = nat_le 1 L

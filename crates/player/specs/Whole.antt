@@ -56,6 +56,7 @@ module _ {C : Type 0} (K : Kind C) (r : Local) (d : Weights K.group.Carrier) whe
   LogTrue (Ok (breaks b)) script handed = Unit {0}
   LogTrue (Err f) script handed = Unit {0}
 
+  -- both of these
   abbrev pub ScriptTrue : Result (Judgement K.group.Carrier) Refusal → List Call → Strips K.group.Carrier → Strips K.group.Carrier →
       List (Option (Answer K.group.Carrier)) → ℕ → Type 0
   ScriptTrue judged script handed left said cells = Plays judged script handed left said cells × LogTrue judged script handed

@@ -13,6 +13,6 @@ pub record ReadInto (was : Strips) (answer : Result Preset Refusal) (now : Strip
   pub letters : now.letters ≡ strip_after (λ p. p.letters) was.letters answer
   pub entries : now.entries ≡ strip_after (λ p. p.entries) was.entries answer
 
--- strips that are lent end as a fact says
-abbrev pub Rest : MutBor Strips → (Strips → Type 0) → Fml
-Rest s P = follows_so the_row the_row s.ghost_name none (λ _ _. ⊤) P
+-- what is true of lent strips once the loan ends
+abbrev pub EndsAs : MutBor Strips → (Strips → Type 0) → Fml
+EndsAs s P = follows_so the_row the_row s.ghost_name none (λ _ _. ⊤) P

@@ -1,5 +1,5 @@
 -- How a preset is written. Assumes nothing.
-use Rattle.std.specs.Prelude.{ℕ, suc, ◌+◌, ◌-◌, ◌^◌, Bool, cond, ◌&&◌, ltb, List, [], ◌∷◌, ◌++◌, length, take, Ok, Err, Result, nat_le, nat_lt}
+use Rattle.std.specs.Prelude.{ℕ, suc, ◌+◌, ◌-◌, ◌^◌, Bool, cond, ◌&&◌, List, [], ◌∷◌, ◌++◌, length, take, Ok, Err, Result, nat_le, nat_lt}
 use Rattle.std.specs.Option.{ok_or}
 use Rattle.fault.specs.declared.Stop.{Stop}
 use Rattle.fault.specs.declared.Stop.TheVariants.{UnknownKind, BadAlphabet, BadWindow, BadReach, BadWidth, TooManyWords, ShortStrip, BadLetter, BadEntry}
@@ -45,7 +45,7 @@ strips_checked h letters entries =
 -- each letter and each entry of a preset is allowed
 abbrev pub contents_checked : Preset → Result (Unit {0}) Refusal
 contents_checked p =
-    and_then (each_fits (λ x. ltb x p.head.header.q) BadLetter 0 p.letters) (λ _.
+    and_then (each_fits (λ x. nat_lt x p.head.header.q) BadLetter 0 p.letters) (λ _.
     each_fits (fits p.head.kind) BadEntry 0 p.entries)
 
 -- the preset that a header and two strips give, or the first refusal

@@ -21,7 +21,7 @@ impl Strips {
     ghost use Rattle.preset.specs.Loads.{loaded, preset_of};
     ghost use Rattle.preset.specs.Presets.{whole_preset};
     ghost use Rattle.preset.specs.Sound.{Sound};
-    ghost use Rattle.preset.specs.Strips.{Rest, ReadInto};
+    ghost use Rattle.preset.specs.Strips.{EndsAs, ReadInto};
     ghost use Rattle.preset.specs.Writes.{fronts};
 
     // Strips of zeros.
@@ -58,7 +58,7 @@ impl Strips {
     // The preset that the whole input is, on the strips.
     pub fn read(&mut self, input: &[u8]) -> Result<Loaded<'_>, Fault>
         ensures answer { loaded result ≡ whole_preset input.now }
-        ensures* strips { sem 𝓛 (Rest self.entry (ReadInto self.old (whole_preset input.now))) }
+        ensures* strips { sem 𝓛 (EndsAs self.entry (ReadInto self.old (whole_preset input.now))) }
     {
         let head = self.fill(input)?;
         Ok(self.front(head))

@@ -19,14 +19,18 @@ use Rattle.bench.specs.Labels.{rule_label_list}
 use Rattle.bench.specs.Laws.{VerdictRight}
 use Rattle.bench.specs.Verdicts.{broken, bench_checked, judge_found}
 
--- What was found for a label on two strips: an answer with the two totals of the ring shown, the crossings, the ring,
--- and what is right of all rings.
+-- An answer that means what was found, with the two totals of the ring shown, and what is right of all rings.
+pub record FoundIs {C : Type 0} (K : Kind C) (first second : List ℕ → K.group.Carrier) (Right : Result (Option (ℕ × List ℕ)) Refusal → Type 0)
+    (found : Result (Option (ℕ × List ℕ)) Refusal) (answer : Result (Option (Break C)) Fault) : Type 0 where
+  pub said : found_said K answer ≡ and_then found (λ f. Ok (option_map (broken first second) f))
+  pub right : Right found
+
+-- What was found for a label on two strips: the answer, the crossings and the ring.
 pub record Finds {C : Type 0} (K : Kind C) (label : Weights K.group.Carrier) (first second : List ℕ → K.group.Carrier) (Right : Result (Option (ℕ × List ℕ)) Refusal → Type 0)
     (found : Result (Option (ℕ × List ℕ)) Refusal) (old new : List C) (strip ring : List ℕ) (answer : Result (Option (Break C)) Fault) : Type 0 where
-  pub said : found_said K answer ≡ and_then found (λ f. Ok (option_map (broken first second) f))
+  pub is : FoundIs K first second Right found answer
   pub crossed : FrontMeans K (unless_refused found (crossings K padding label)) old new
   pub shown : ring ≡ front (ring_written found) strip
-  pub right : Right found
 
 -- for a rule under a density
 abbrev pub JudgeFinds : {C : Type 0} (K : Kind C) → Local → Weights K.group.Carrier → Result (Option (ℕ × List ℕ)) Refusal → List C → List C → List ℕ → List ℕ → Result (Option (Break C)) Fault → Type 0

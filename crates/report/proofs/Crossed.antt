@@ -1,27 +1,17 @@
 -- The page of crossings, from what a call found and wrote. Assumes nothing.
-use Rattle.std.proofs.Common.{◌≡◌, ℕ, ◌+◌, ◌-◌, ◌^◌, ◌≤◌, List, map, length, take, IfSome, IsErrAnd, Some, None, Ok, Err, Option, Result, sym, refl, ap, ◌∙◌, subst, le_trans, arith}
-use native.Mathlib.Nat.{pow-le-pow_right}
-use Rattle.std.specs.Option.{option_map}
+use Rattle.std.proofs.Common.{◌≡◌, ℕ, ◌^◌, List, map, length, take, IfSome, IsErrAnd, Ok, Err, Option, Result, sym, refl, ap, ◌∙◌, subst}
 use Rattle.fault.specs.declared.Fault.{Fault}
-use Rattle.fault.specs.Answers.{and_then}
-use Rattle.fault.specs.Limits.{most_words}
-use Rattle.fault.specs.Refusals.{Refusal}
 use Rattle.charge.specs.Groups.{Kind}
-use Rattle.automaton.specs.Meanings.{Weights, next, total}
-use Rattle.automaton.specs.Tables.{length-table}
-use Rattle.automaton.specs.Words.{word}
+use Rattle.automaton.specs.Meanings.{next, total}
 use Rattle.criterion.specs.Answers.{unless_refused}
-use Rattle.criterion.specs.Search.{padding, crossings, J}
+use Rattle.criterion.specs.Search.{padding, crossings}
 use Rattle.preset.specs.Sending.{Sending}
-use Rattle.preset.specs.Sizes.{Sized}
 use Rattle.preset.specs.declared.header.Header.{Header}
 use Rattle.console.specs.Shows.{unless_memory}
 use Rattle.console.specs.declared.failure.ShowError.{ShowError}
 use Rattle.console.specs.declared.failure.ShowError.TheVariants.{Refused}
 use Rattle.bench.specs.declared.state.Break.{Break}
-use Rattle.bench.specs.Answers.{found_said}
 use Rattle.bench.specs.Labels.{rule_label_list}
-use Rattle.bench.specs.Verdicts.{broken}
 use Rattle.report.specs.declared.line.Line.{Line}
 use Rattle.preset_bench.proofs.Counts.{count-is}
 use Rattle.preset_bench.specs.Finds.{JudgeFinds, preset_rule, preset_density, preset_found}
@@ -40,11 +30,10 @@ page-told K S room cells h letters charges old new strip ring o finds shape same
     let label = rule_label_list K.group r d in
     let to = crossing_shape S.named h in
     let found = preset_found K room cells h letters charges in
-    let count = count-is K label (total K.group d) (λ c. total K.group d (next r c)) found o finds.said in
+    let count = count-is K label (total K.group d) (λ c. total K.group d (next r c)) found o finds.is.said in
     record {
       answer = Ok o;
-      said = finds.said;
-      right = finds.right;
+      is = finds.is;
       crossed = take (to.q ^ to.m) new;
       meant = ap (λ (n : ℕ). map K.means (take n new)) (sym count) ∙ finds.crossed.0;
       page = record {
@@ -59,8 +48,7 @@ pub refusal-told : {C : Type 0} (K : Kind C) (S : Sending C) (room cells : ℕ) 
     → ToldCrossings K S room cells h letters charges (Err f)
 refusal-told K S room cells h letters charges old new strip ring f finds = record {
   answer = Err f;
-  said = finds.said;
-  right = finds.right;
+  is = finds.is;
   crossed = take (length (unless_refused (preset_found K room cells h letters charges) (crossings K padding (rule_label_list K.group (preset_rule h letters) (preset_density K h charges))))) new;
   meant = finds.crossed.0;
   page = refl;

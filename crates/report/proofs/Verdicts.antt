@@ -61,16 +61,15 @@ module _ {C : Type 0} (K : Kind C) (S : Sending C) (first second : List ℕ → 
   module _ (label : Weights K.group.Carrier) (Right : Result (Option (ℕ × List ℕ)) Refusal → Type 0) (old new : List C) (strip ring : List ℕ) (answer : Result (Option (Break C)) Fault)
       (finds : Finds K label first second Right found old new strip ring answer) (sent : Result (Option (Break Entry)) Fault) (is : sent ≡ sent_found S answer) where
     pub finds_fit : ring_fits sent ring
-    finds_fit = subst (λ (r : Result (Option (Break Entry)) Fault). ring_fits r ring) (sym is) (fits_on answer strip ring finds.said finds.shown)
+    finds_fit = subst (λ (r : Result (Option (Break Entry)) Fault). ring_fits r ring) (sym is) (fits_on answer strip ring finds.is.said finds.shown)
 
     pub told : (question : Question) (subject : List ℕ) (shape to : Shape) → shape ≡ to → (l : Line) → LineIs (verdict_text question subject shape ring sent) (verdict_good sent) l
         → VerdictLine K S question subject to first second Right found l
     told question subject shape to same l h = record {
       answer = answer;
-      said = finds.said;
-      right = finds.right;
+      is = finds.is;
       line = record {
-        text_is = h.text_is ∙ ((λ i. verdict_text question subject (same i) ring (is i)) ∙ text_on question subject to answer strip ring finds.said finds.shown);
+        text_is = h.text_is ∙ ((λ i. verdict_text question subject (same i) ring (is i)) ∙ text_on question subject to answer strip ring finds.is.said finds.shown);
         good_is = h.good_is ∙ ap verdict_good is;
       };
     }

@@ -1,8 +1,7 @@
 -- What the lines and pages tell of presets. Assumes nothing.
 use Rattle.std.specs.Prelude.{◌≡◌, ℕ, ◌+◌, ◌-◌, max, Bool, true, false, List, map, Ok, Err, Option, Result, ◌==◌}
-use Rattle.std.specs.Option.{option_map}
 use Rattle.fault.specs.declared.Fault.{Fault}
-use Rattle.fault.specs.Answers.{and_then, plainly}
+use Rattle.fault.specs.Answers.{plainly}
 use Rattle.fault.specs.Limits.{most_words}
 use Rattle.fault.specs.Refusals.{Refusal}
 use Rattle.charge.specs.Groups.{Kind}
@@ -18,24 +17,15 @@ use Rattle.preset.specs.Sending.{Sending, voices_sending, pitch_sending, channel
 use Rattle.preset.specs.declared.entry.Entry.{Entry}
 use Rattle.preset.specs.declared.header.Header.{Header}
 use Rattle.bench.specs.declared.state.Break.{Break}
-use Rattle.bench.specs.Answers.{found_said}
 use Rattle.bench.specs.Labels.{rule_label_list}
 use Rattle.bench.specs.Laws.{VerdictRight, ComparisonRight}
-use Rattle.bench.specs.Verdicts.{broken}
 use Rattle.report.specs.declared.line.Line.{Line}
 use Rattle.report.specs.declared.line.Question.{Question}
 use Rattle.report.specs.declared.line.Question.TheVariants.{Judge, Compare}
-use Rattle.preset_bench.specs.Finds.{preset_rule, preset_density, preset_found, sent_found}
+use Rattle.preset_bench.specs.Finds.{FoundIs, preset_rule, preset_density, preset_found, sent_found}
 use Rattle.report.specs.Finds.{pair_found, answer_good}
 use Rattle.report.specs.Lines.{LineIs}
 use Rattle.report.specs.Texts.{Shape, kinds_text, two_names, refused_text, verdict_text, verdict_good, row_text, rows_text}
-
--- how many crossings and cells the strips have room for
-abbrev pub crossing_room : ℕ
-crossing_room = most_words
-
-abbrev pub ring_room : ℕ
-ring_room = most_shown
 
 -- the words that a preset's label is on, and those that two densities' label is on
 abbrev pub judge_shape : ChargeKind → Header → Shape
@@ -49,8 +39,7 @@ compare_shape kind h h' = record { kind = kind; q = h.q; m = max h.k h'.k }
 pub record VerdictLine {C : Type 0} (K : Kind C) (S : Sending C) (question : Question) (subject : List ℕ) (shape : Shape) (first second : List ℕ → K.group.Carrier)
     (Right : Result (Option (ℕ × List ℕ)) Refusal → Type 0) (found : Result (Option (ℕ × List ℕ)) Refusal) (l : Line) : Type 0 where
   pub answer : Result (Option (Break C)) Fault
-  pub said : found_said K answer ≡ and_then found (λ f. Ok (option_map (broken first second) f))
-  pub right : Right found
+  pub is : FoundIs K first second Right found answer
   pub line : LineIs (verdict_text question subject shape (ring_written found) (sent_found S answer)) (verdict_good (sent_found S answer)) l
 
 -- the line of a preset with its charges, judged on strips of some lengths
@@ -66,7 +55,7 @@ ToldJudgement K S room cells name h letters charges =
 pub record JudgeLine {C : Type 0} (K : Kind C) (S : Sending C) (name : List ℕ) (h : Header) (letters : List ℕ) (entries : List Entry) (l : Line) : Type 0 where
   pub charges : List C
   pub sent : map S.entry charges ≡ entries
-  pub verdict : ToldJudgement K S crossing_room ring_room name h letters charges l
+  pub verdict : ToldJudgement K S most_words most_shown name h letters charges l
 
 -- of any kind
 abbrev pub JudgedAs : ChargeKind → List ℕ → Header → List ℕ → List Entry → Line → Type 0
@@ -95,7 +84,7 @@ pub record CompareLine {C : Type 0} (K : Kind C) (S : Sending C) (subject : List
   pub others : List C
   pub sent : map S.entry charges ≡ entries
   pub others_sent : map S.entry others ≡ entries'
-  pub verdict : ToldComparison K S crossing_room ring_room subject h charges h' others l
+  pub verdict : ToldComparison K S most_words most_shown subject h charges h' others l
 
 -- of two presets whose kinds are the same or not
 abbrev pub ComparedAs : Bool → ChargeKind → List ℕ → Header → List Entry → Header → List Entry → Line → Type 0
@@ -129,8 +118,7 @@ PageIs S shape crossed (Err f) (Err g) = f ≡ g
 -- The page of a preset with its charges, judged on strips of some lengths: charges that mean its crossings, a row each.
 pub record ToldCrossings {C : Type 0} (K : Kind C) (S : Sending C) (room cells : ℕ) (h : Header) (letters : List ℕ) (charges : List C) (r : Result Line Fault) : Type 0 where
   pub answer : Result (Option (Break C)) Fault
-  pub said : found_said K answer ≡ and_then (preset_found K room cells h letters charges) (λ f. Ok (option_map (broken (total K.group (preset_density K h charges)) (λ c. total K.group (preset_density K h charges) (next (preset_rule h letters) c))) f))
-  pub right : VerdictRight K (preset_rule h letters) (preset_density K h charges) (preset_found K room cells h letters charges)
+  pub is : FoundIs K (total K.group (preset_density K h charges)) (λ c. total K.group (preset_density K h charges) (next (preset_rule h letters) c)) (VerdictRight K (preset_rule h letters) (preset_density K h charges)) (preset_found K room cells h letters charges) answer
   pub crossed : List C
   pub meant : map K.means crossed ≡ unless_refused (preset_found K room cells h letters charges) (crossings K padding (rule_label_list K.group (preset_rule h letters) (preset_density K h charges)))
   pub page : PageIs S (crossing_shape S.named h) crossed answer r
@@ -139,7 +127,7 @@ pub record ToldCrossings {C : Type 0} (K : Kind C) (S : Sending C) (room cells :
 pub record CrossingsPage {C : Type 0} (K : Kind C) (S : Sending C) (h : Header) (letters : List ℕ) (entries : List Entry) (r : Result Line Fault) : Type 0 where
   pub charges : List C
   pub sent : map S.entry charges ≡ entries
-  pub told : ToldCrossings K S crossing_room ring_room h letters charges r
+  pub told : ToldCrossings K S most_words most_shown h letters charges r
 
 -- of any kind
 abbrev pub CrossedAs : ChargeKind → Header → List ℕ → List Entry → Result Line Fault → Type 0
