@@ -70,9 +70,9 @@ sum_more q n i front sum t h e =
     omega arith
 
 -- a rule looked up in a front is looked up in the whole
-pub lookup_rule-front : (place : ℕ → ℕ → ℕ → ℕ) (places : ℕ → ℕ → ℕ) (q n l : ℕ) (xs ys : List ℕ) → ((c : ℕ) → c < q ^ n → place q n c < places q n) → ys ≡ take (places q n) xs →
+pub lookup_rule-front : (place : ℕ → ℕ → ℕ → ℕ) (q n l places : ℕ) (xs ys : List ℕ) → ((c : ℕ) → c < q ^ n → place q n c < places) → ys ≡ take places xs →
     lookup_rule place q n l ys ≡ lookup_rule place q n l xs
-lookup_rule-front place places q n l xs ys within e =
+lookup_rule-front place q n l places xs ys within e =
     ap (λ (letters : List ℕ). record { q = q; n = n; l = l; answers = letters })
     (window_same (q ^ n) (λ c. get_or ys (place q n c) 0) (λ c. get_or xs (place q n c) 0) 0 0
-    (λ t h. ap (λ (zs : List ℕ). get_or zs (place q n (0 + t)) 0) e ∙ get_or-take (places q n) xs (place q n (0 + t)) 0 (within (0 + t) (omega arith))))
+    (λ t h. ap (λ (zs : List ℕ). get_or zs (place q n (0 + t)) 0) e ∙ get_or-take places xs (place q n (0 + t)) 0 (within (0 + t) (omega arith))))

@@ -7,12 +7,11 @@ use Rattle.std.proofs.lemmas.Bool.{ltb-true, lt-ltb}
 use Rattle.std.proofs.lemmas.Bool.Decides.{nat_tests}
 use Rattle.fault.specs.declared.Stop.{Stop}
 use Rattle.fault.specs.declared.Stop.TheVariants.{BadLetter}
-use Rattle.fault.specs.Answers.{and_then}
-use Rattle.fault.specs.Checks.{tested, each_fits}
+use Rattle.fault.specs.Checks.{each_fits}
 use Rattle.fault.specs.Limits.{most_cells}
 use Rattle.fault.specs.Refusals.{refused_at}
 use Rattle.automaton.specs.Words.{Letters}
-use Rattle.automaton.specs.Making.{rule_tests, counted, taken, ring_checked}
+use Rattle.automaton.specs.Making.{taken, ring_checked}
 
 -- items that all pass
 pub each_passes : {X : Type 0} (allows : X → Bool) (stop : Stop) (none : X) (i : ℕ) (xs : List X) → each_fits allows stop i xs ≡ Ok tt →
@@ -44,9 +43,6 @@ taken-letters q need xs ys e =
       ap length p.1 ∙ length-take-le need xs p.0,
       subst (Letters q) (sym p.1) (λ i h. ltb-true (get_or (take need xs) i 0) q (each_passes (λ a. ltb a q) BadLetter 0 0 (take need xs) p.2 i h)),
     )
-
-pub rule-reach : (q n l w : ℕ) → and_then (tested (rule_tests q n l)) (λ _. counted q n) ≡ Ok w → l < n
-rule-reach q n l w e = grind (arith, nat_tests)
 
 pub ring_passes : (q room : ℕ) (ring : List ℕ) → 1 ≤ length ring → length ring ≤ most_cells → length ring ≤ room → each_fits (λ a. ltb a q) BadLetter 0 ring ≡ Ok tt → ring_checked q room ring ≡ Ok ring
 ring_passes q room ring some most fits e = grind (arith, nat_tests)

@@ -21,7 +21,6 @@ pub lookup-lawful : (q n l : ℕ) (xs : List ℕ) (place : ℕ → ℕ) → Dens
     Lawful (record { q = q; n = n; l = l; answers = table (q ^ n) (λ c. slice_index xs (place c)) })
 lookup-lawful q n l xs place sizes reach below = record {
   sizes = (sizes.0, sizes.1, sizes.2, sizes.3, reach);
-  few = sizes.4;
   each = length-table (q ^ n) (λ c. slice_index xs (place c));
   letters = λ i h.
       let within : i < q ^ n = omega (arith, length-table (q ^ n) (λ c. slice_index xs (place c))) in

@@ -20,9 +20,6 @@ lookup_rule place q n l letters = record { q = q; n = n; l = l; answers = table 
 abbrev pub by_code : ℕ → ℕ → ℕ → ℕ
 by_code q n c = c
 
-abbrev pub code_count : ℕ → ℕ → ℕ
-code_count q n = q ^ n
-
 abbrev pub table_rule : ℕ → ℕ → ℕ → List ℕ → Local
 table_rule = lookup_rule by_code
 
@@ -34,6 +31,9 @@ letter_sum (a ∷ w) = a + letter_sum w
 -- at the sum of the window's letters
 abbrev pub by_sum : ℕ → ℕ → ℕ → ℕ
 by_sum q n c = letter_sum (word q n c)
+
+abbrev pub sum_rule : ℕ → ℕ → ℕ → List ℕ → Local
+sum_rule = lookup_rule by_sum
 
 -- how many sums n letters have
 abbrev pub sum_count : ℕ → ℕ → ℕ
@@ -92,16 +92,12 @@ rule_making q n l need letters =
     and_then (counted q n) (λ _.
     taken (λ a. nat_lt a q) BadLetter need letters))
 
--- whether a charge may be an entry
-abbrev pub may_enter : {C : Type 0} → Kind C → C → Bool
-may_enter K x = K.entry (K.means x)
-
 -- the entries of a density, likewise
 abbrev pub table_making : {C : Type 0} → Kind C → ℕ → ℕ → List C → Result (List C) Refusal
 table_making K q k entries =
     and_then (tested (density_tests q k)) (λ _.
     and_then (counted q k) (λ count.
-    taken (may_enter K) BadEntry count entries))
+    taken K.entry BadEntry count entries))
 
 -- the letters of a pattern, likewise; its charge is tested last
 abbrev pub pattern_making : {C : Type 0} → Kind C → ℕ → ℕ → List ℕ → C → Result (List ℕ) Refusal
@@ -109,7 +105,7 @@ pattern_making K q k pattern charge =
     and_then (tested (density_tests q k)) (λ _.
     and_then (counted q k) (λ _.
     and_then (taken (λ a. nat_lt a q) BadLetter k pattern) (λ letters.
-    cond (may_enter K charge) (Ok letters) (Err (refused_at BadEntry 0)))))
+    cond (K.entry charge) (Ok letters) (Err (refused_at BadEntry 0)))))
 
 -- a call that makes something of what it takes, or refuses
 abbrev pub done : {X : Type 0} → Result X Refusal → Result (Unit {0}) Refusal

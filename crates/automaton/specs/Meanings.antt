@@ -1,6 +1,6 @@
 -- What rules and densities mean, by words and on rings. Assumes nothing.
 use Rattle.std.specs.Prelude.{◌≡◌, ℕ, ◌^◌, ◌<◌, ◌≤◌, List, length, slice_index, slice_index_or}
-use Rattle.fault.specs.Limits.{least_letters, most_letters, most_window, most_width, most_words}
+use Rattle.fault.specs.Limits.{least_letters, most_letters, most_window, most_width}
 use Rattle.charge.specs.Groups.{Group, sum_over}
 use Rattle.automaton.specs.Words.{Letters, code, window, table, cell, before}
 
@@ -19,7 +19,6 @@ RuleSizes q n l = (least_letters ≤ q) × (q ≤ most_letters) × (1 ≤ n) × 
 -- the sizes are within their limits, and there is an answer below q for each word
 pub record Lawful (r : Local) : Type 0 where
   pub sizes : RuleSizes r.q r.n r.l
-  pub few : r.q ^ r.n ≤ most_words
   pub each : length r.answers ≡ r.q ^ r.n
   pub letters : Letters r.q r.answers
 
@@ -32,7 +31,7 @@ pub record Weights (A : Type 0) : Type 0 where
 
 -- the limits of a density's sizes
 abbrev pub DensitySizes : ℕ → ℕ → Type 0
-DensitySizes q k = (least_letters ≤ q) × (q ≤ most_letters) × (1 ≤ k) × (k ≤ most_width) × (q ^ k ≤ most_words)
+DensitySizes q k = (least_letters ≤ q) × (q ≤ most_letters) × (1 ≤ k) × (k ≤ most_width)
 
 -- the sizes are within their limits, and there is a charge for each word
 pub record Weighed {A : Type 0} (d : Weights A) : Type 0 where

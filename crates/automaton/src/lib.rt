@@ -2,7 +2,7 @@
 #![tactic(auto)]
 
 mod density;
-mod lookup_rule;
+mod lookup;
 mod making;
 mod pattern;
 mod ring;
@@ -14,12 +14,11 @@ mod table_rule;
 mod words;
 
 pub use density::Density;
-pub use lookup_rule::LookupRule;
 pub use pattern::PatternDensity;
 pub use ring::{Ring, Span, next_ring, total};
 pub use rule::Rule;
 pub use shown::{ShownLetters, ShownWord};
-pub use sum_rule::{BySum, SumRule};
+pub use sum_rule::SumRule;
 pub use table_density::TableDensity;
-pub use table_rule::{ByCode, TableRule};
+pub use table_rule::TableRule;
 pub use words::Words;

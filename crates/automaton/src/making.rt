@@ -1,12 +1,12 @@
 // The tests that rules, densities and rings are held to: the lowest stop code that fits is the refusal.
-ghost use Rattle.std.specs.Prelude.{◌≡◌, Bool, Ok, Err, MatchResult, not, nat_lt, position};
+ghost use Rattle.std.specs.Prelude.{◌≡◌, ◌<◌, Bool, Ok, Err, MatchResult, not, nat_lt, position};
 ghost use Rattle.std.specs.Option.{option_map_or};
 ghost use Rattle.fault.specs.declared.Stop.{Stop};
 ghost use Rattle.fault.specs.declared.Stop.TheVariants.{BadLetter, BadEntry};
 ghost use Rattle.fault.specs.Answers.{plainly, and_then};
 ghost use Rattle.fault.specs.Checks.{tested, each_fits};
 ghost use Rattle.fault.specs.Refusals.{refusal, refused_at};
-ghost use Rattle.automaton.specs.Making.{rule_tests, density_tests, may_enter, counted, lent, taken};
+ghost use Rattle.automaton.specs.Making.{rule_tests, density_tests, counted, lent, taken};
 
 use crate::words::Words;
 use charge::Charge;
@@ -48,7 +48,7 @@ impl Test<u8> for Alphabet {
 pub(crate) struct Entries;
 
 impl<C: Charge> Test<C> for Entries {
-    ghost allows = { λ _ x. may_enter C.kind x };
+    ghost allows = { λ _ x. C.kind.entry x };
 
     ghost STOP = { BadEntry };
 
@@ -59,9 +59,9 @@ impl<C: Charge> Test<C> for Entries {
     }
 }
 
-// The words of a rule's window.
+// The words of a rule's window, which is longer than the reach.
 pub(crate) fn check_rule(q: u64, n: u64, l: u64) -> Result<Words, Fault>
-    ensures { MatchResult result (λ w. (and_then (tested (rule_tests q n l)) (λ _. counted q n) ≡ Ok w.count) × (w.q ≡ q) × (w.m ≡ n)) (λ f. and_then (tested (rule_tests q n l)) (λ _. counted q n) ≡ Err (refusal f)) }
+    ensures { MatchResult result (λ w. (and_then (tested (rule_tests q n l)) (λ _. counted q n) ≡ Ok w.count) × (w.q ≡ q) × (w.m ≡ n) × (l < n)) (λ f. and_then (tested (rule_tests q n l)) (λ _. counted q n) ≡ Err (refusal f)) }
 {
     Stop::BadAlphabet.unless(LEAST_LETTERS <= q && q <= MOST_LETTERS)?;
     Stop::BadWindow.unless(1 <= n && n <= MOST_WINDOW)?;

@@ -1,35 +1,80 @@
 // Rules by a table of the answers, one for each sum of the window's letters.
-ghost use Rattle.automaton.specs.Making.{by_sum, sum_count};
-ghost use Rattle.automaton.specs.Lookups.{sum_within};
+ghost use Rattle.std.specs.Prelude.{◌≡◌, MatchResult};
+ghost use Rattle.fault.specs.Answers.{plainly};
+ghost use Rattle.automaton.specs.Making.{sum_rule, by_sum, sum_count, zero_rule, rule_making, done};
+ghost use Rattle.automaton.specs.Lookups.{lookup-lawful};
 
-use crate::lookup_rule::{Lookup, LookupRule};
+use crate::lookup::Table;
+use crate::making::check_rule;
+use crate::rule::Rule;
 use crate::words::Words;
+use fault::Fault;
 
-// The answer for a word stands at the sum of its letters.
+// A rule of which the answer for a word stands at the sum of its letters.
 #[derive(Clone, Copy)]
-pub struct BySum;
+pub struct SumRule<'a> {
+    table: Table<'a>,
+}
 
-impl Lookup for BySum {
-    ghost place = { by_sum };
+// The sum of the letters of the word of a code.
+fn sum_of(words: Words, code: usize) -> usize
+    ensures { result ≡ by_sum words.q words.m code }
+{
+    let mut front = code;
+    let mut sum = 0;
+    for _ in 0..words.m {
+        sum += front % words.q;
+        front /= words.q;
+    }
+    sum
+}
 
-    ghost places = { sum_count };
+// How many sums the words have.
+fn sums(words: Words) -> usize
+    ensures { result ≡ sum_count words.q words.m }
+{
+    words.m * (words.q - 1) + 1
+}
 
-    ghost within = { λ q n c some h. sum_within q n c some };
+impl Rule for SumRule<'_> {
+    ghost meaning = { λ t. sum_rule t.table.words.q t.table.words.m t.table.l t.table.letters.now };
 
-    fn place(words: Words, code: usize) -> usize {
-        let mut front = code;
-        let mut sum = 0;
-        for _ in 0..words.m {
-            sum += front % words.q;
-            front /= words.q;
-        }
-        sum
+    ghost lawful = { λ t. lookup-lawful t.table.words.q t.table.words.m t.table.l t.table.letters.now (by_sum t.table.words.q t.table.words.m) t.table.words.sizes t.table.reach t.table.below };
+
+    fn q(&self) -> usize {
+        self.table.words.q
     }
 
-    fn places(words: Words) -> usize {
-        words.m * (words.q - 1) + 1
+    fn n(&self) -> usize {
+        self.table.words.m
+    }
+
+    fn l(&self) -> usize {
+        self.table.l
+    }
+
+    fn answer(&self, code: usize) -> u8 {
+        self.table.answer(code, sum_of(self.table.words, code))
     }
 }
 
-// A rule of which the answer stands at the sum of the window's letters.
-pub type SumRule<'a> = LookupRule<'a, BySum>;
+impl<'a> SumRule<'a> {
+    // The rule of two letters and a window of one cell that answers 0.
+    pub fn zero() -> SumRule<'a>
+        ensures { sum_rule result.table.words.q result.table.words.m result.table.l result.table.letters.now ≡ zero_rule }
+    {
+        SumRule {
+            table: Table::zero(),
+        }
+    }
+
+    // Becomes the rule of a table of sums, or refuses and stays as it was.
+    pub fn fill(&mut self, q: u64, n: u64, l: u64, letters: &'a [u8]) -> Result<(), Fault>
+        ensures answer { plainly result ≡ done (rule_making q n l (sum_count q n) letters.now) }
+        ensures rule { MatchResult result (λ _. sum_rule self.new.table.words.q self.new.table.words.m self.new.table.l self.new.table.letters.now ≡ sum_rule q n l letters.now) (λ _. self.new ≡ self.old) }
+    {
+        let words = check_rule(q, n, l)?;
+        self.table = Table::of(words, l, sums(words), letters)?;
+        Ok(())
+    }
+}

@@ -2,7 +2,7 @@
 ghost use Rattle.std.specs.Prelude.{◌≡◌, ◌<◌, ◌≤◌, length, MatchResult, slice_index_or};
 ghost use Rattle.fault.specs.Answers.{plainly};
 ghost use Rattle.fault.specs.declared.Stop.TheVariants.{BadEntry};
-ghost use Rattle.automaton.specs.Making.{table_density, zero_density, table_making, may_enter, done, lent, taken};
+ghost use Rattle.automaton.specs.Making.{table_density, zero_density, table_making, done, lent, taken};
 ghost use Rattle.automaton.specs.Lookups.{table_weighed};
 
 use crate::density::Density;
@@ -62,7 +62,7 @@ impl<'a, C: Charge> TableDensity<'a, C> {
 
 // The entries of a table, one for each word, from the front of a strip.
 fn table_entries<'a, C: Charge>(words: Words, strip: &'a [C]) -> Result<&'a [C], Fault>
-    ensures { lent result ≡ taken (may_enter C.kind) BadEntry words.count strip.now }
+    ensures { lent result ≡ taken C.kind.entry BadEntry words.count strip.now }
 {
     take_checked(&Entries, words.count, strip)
 }

@@ -1,5 +1,6 @@
 // The words of a window or of a width.
 ghost use Rattle.std.specs.Prelude.{◌≡◌, ◌^◌, ◌≤◌, Ok, Err, MatchResult};
+ghost use Rattle.fault.specs.Limits.{most_words};
 ghost use Rattle.fault.specs.Refusals.{refusal};
 ghost use Rattle.automaton.specs.Meanings.{DensitySizes};
 ghost use Rattle.automaton.specs.Making.{counted};
@@ -14,6 +15,7 @@ pub struct Words {
     pub m: usize,
     pub count: usize,
     pub ghost sizes: { DensitySizes q m },
+    pub ghost few: { q ^ m ≤ most_words },
     pub ghost counted: { count ≡ q ^ m },
 }
 

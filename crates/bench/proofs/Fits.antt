@@ -1,5 +1,6 @@
 -- What the sizes of a label have passed. Assumes nothing.
-use Rattle.std.proofs.Common.{◌≡◌, ℕ, ◌^◌, ◌≤◌, Ok, ⊎_elim, arith}
+use Rattle.std.proofs.Common.{◌≡◌, ℕ, ◌^◌, ◌≤◌, Ok, ⊎_elim, le_trans, arith}
+use native.Mathlib.Nat.{pow-le-pow_right}
 use Rattle.std.proofs.lemmas.Bool.{cases_lt}
 use Rattle.std.proofs.lemmas.Bool.Decides.{nat_tests}
 use Rattle.fault.specs.Answers.{and_then}
@@ -16,7 +17,11 @@ short : (q m : ℕ) → 2 ≤ q → q ^ m ≤ most_words → m ≤ 12
 short q m some few = ⊎_elim (λ l. absurd (omega (arith, too_many q m some l))) (λ l. l) (cases_lt 12 m)
 
 -- the words that have passed
-pub words_sizes : (q other m x : ℕ) → 2 ≤ q → q ≤ 8 → 1 ≤ m → Ok x ≡ and_then (fitting q other m) (λ _. Ok (q ^ m)) → DensitySizes q m × (x ≡ q ^ m)
+pub words_sizes : (q other m x : ℕ) → 2 ≤ q → q ≤ 8 → 1 ≤ m → Ok x ≡ and_then (fitting q other m) (λ _. Ok (q ^ m)) → DensitySizes q m × (q ^ m ≤ most_words) × (x ≡ q ^ m)
 words_sizes q other m x some most long e =
     let p = fitting_passes q other m x e in
-    ((some, most, long, short q m some p.1, p.1), p.2)
+    ((some, most, long, short q m some p.1), p.1, p.2)
+
+-- the words of a part are no more
+pub part_few : (q n m : ℕ) → 1 ≤ q → n ≤ m → q ^ m ≤ most_words → q ^ n ≤ most_words
+part_few q n m some shorter few = le_trans (pow-le-pow_right some shorter) few

@@ -184,7 +184,7 @@ module _ (s : RuleSizes) (r : Local) (lawful : Lawful r) (same : sized_rule s r 
   next-small c =
       let some : 0 < s.words.q = omega (arith, s.words.sizes.0) in
       let few : s.words.q ^ s.k ≤ s.words.q ^ s.words.m = pow-le-pow_right some (omega (arith, s.whole, s.reach)) in
-      omega (arith, nexts-below (sized_rule s r) some (omega (arith, s.reach)) s.k s.some sized_lawful.letters c, few, s.words.sizes.4)
+      omega (arith, nexts-below (sized_rule s r) some (omega (arith, s.reach)) s.k s.some sized_lawful.letters c, few, s.words.few)
 
   pub extended : (strip : List ℕ) (head last a : ℕ) → KnowsNext s r (max 1 (head * s.words.q)) strip → last < s.words.q →
       a ≡ get_or r.answers (head * s.words.q % s.windows + last) 0 → get_or strip head 0 % s.kept * s.words.q + a ≡ next_word s r (head * s.words.q + last)

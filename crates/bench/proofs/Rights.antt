@@ -20,7 +20,7 @@ use Rattle.criterion.proofs.Criterion.{ring_sum-same}
 use Rattle.criterion.proofs.LabelLaw.{label_law}
 use Rattle.bench.specs.Labels.{listed, rule_label, rule_label_list, two_label, two_label_list}
 use Rattle.bench.specs.Laws.{Agree, Apart, VerdictRight, ComparisonRight}
-use Rattle.bench.specs.Sized.{listed_weighed}
+use Rattle.bench.specs.Sized.{listed-labelled}
 use Rattle.bench.specs.Verdicts.{fitting, bench_checked, pair_checked, judge_found, compare_found}
 use Rattle.bench.proofs.Gains.{step_gains, two_gains}
 
@@ -35,13 +35,13 @@ FoundTells K q m D A B most r None = Agree q A B × OnlyTable K.group D padding 
 FoundTells K q m D A B most r (Some f) = Apart q most A B f.1
 
 -- a label D on words of m letters that sums on each ring to what A is more than B
-module _ {C : Type 0} (K : Kind C) (q m : ℕ) (D A B : List ℕ → K.group.Carrier) (most r : ℕ) (sizes : DensitySizes q m) (bound : 2 * m - 1 ≤ most) (rest : r ≡ m - 1)
+module _ {C : Type 0} (K : Kind C) (q m : ℕ) (D A B : List ℕ → K.group.Carrier) (most r : ℕ) (sizes : DensitySizes q m) (few : q ^ m ≤ 4096) (bound : 2 * m - 1 ≤ most) (rest : r ≡ m - 1)
     (gain : (c : List ℕ) → 1 ≤ length c → ring_sum K.group D m c ≡ minus K.group (A c) (B c)) where
   some : 0 < q
   some = omega (arith, sizes.0)
 
   law : LabelLaw K padding (listed q m D)
-  law = label_law K padding (listed q m D) (listed_weighed q m D sizes) some
+  law = label_law K padding (listed q m D) (listed-labelled q m D sizes few) some
 
   sums : (c : List ℕ) → 1 ≤ length c → Letters q c → ring_sum K.group (weight K.group (listed q m D)) m c ≡ minus K.group (A c) (B c)
   sums c long below = ring_sum-same K.group (weight K.group (listed q m D)) D q m (listed_at K q m D some) c long below ∙ gain c long
@@ -76,7 +76,7 @@ pub fits : (q other m : ℕ) → fitting q other m ≡ Ok tt → (q ≡ other) �
 fits q other m e = grind (arith, nat_tests)
 
 pub label-sizes : (q m : ℕ) → 2 ≤ q → q ≤ 8 → 1 ≤ m → q ^ m ≤ 4096 → DensitySizes q m
-label-sizes q m two eight one few = (two, eight, one, short, few)
+label-sizes q m two eight one few = (two, eight, one, short)
   where
     short : m ≤ 12
     short = elim (dec_lt 12 m) [ yes h ↦ absurd (omega (arith, too_many q m two h)) | no h ↦ omega arith ]
@@ -98,7 +98,7 @@ module _ {C : Type 0} (K : Kind C) (crossing_room ring_room : ℕ) where
       (λ e. said (failure K padding (rule_label_list K.group r d))
       (found_right K r.q (r.n + d.k - 1) (rule_label K.group r d) (λ c. total K.group d (next r c)) (total K.group d) (2 * (r.n + d.k) - 3) (r.n + d.k - 2)
       (label-sizes r.q (r.n + d.k - 1) lawful.sizes.0 lawful.sizes.1 (omega (arith, lawful.sizes.2, weighed.sizes.2)) (fits r.q d.q (r.n + d.k - 1) e).1)
-      (omega arith) (omega arith) (step_gains K.group r d lawful.sizes.4)))
+      (fits r.q d.q (r.n + d.k - 1) e).1 (omega arith) (omega arith) (step_gains K.group r d lawful.sizes.4)))
     where
       said : (f : Option (ℕ × List ℕ)) →
           FoundTells K r.q (r.n + d.k - 1) (rule_label K.group r d) (λ c. total K.group d (next r c)) (total K.group d) (2 * (r.n + d.k) - 3) (r.n + d.k - 2) f →
@@ -112,7 +112,7 @@ module _ {C : Type 0} (K : Kind C) (crossing_room ring_room : ℕ) where
       (λ t. said (failure K padding (two_label_list K.group d e))
       (found_right K d.q (max d.k e.k) (two_label K.group d e) (total K.group d) (total K.group e) (2 * max d.k e.k - 1) (max d.k e.k - 1)
       (label-sizes d.q (max d.k e.k) weighed.sizes.0 weighed.sizes.1 (omega (arith, weighed.sizes.2)) (fits d.q e.q (max d.k e.k) t).1)
-      (omega arith) refl (λ c long. two_gains K.group d e c)))
+      (fits d.q e.q (max d.k e.k) t).1 (omega arith) refl (λ c long. two_gains K.group d e c)))
     where
       said : (f : Option (ℕ × List ℕ)) →
           FoundTells K d.q (max d.k e.k) (two_label K.group d e) (total K.group d) (total K.group e) (2 * max d.k e.k - 1) (max d.k e.k - 1) f →

@@ -39,7 +39,7 @@ module _ {C : Type 0} (K : Kind C) (a b : ℕ) (L M : Weights K.group.Carrier) (
 -- sizes that a rule and a density have are those of a bench
 pub sizes-pass : {A : Type 0} (s : RuleSizes) (r : Local) (d : Weights A) → SizesOf s r d → bench_checked r d ≡ Ok tt
 sizes-pass s r d sized =
-    let few : r.q ^ (r.n + d.k - 1) ≤ most_words = rw (sym sized.0, sym sized.1, sym sized.3, sym s.whole) s.words.sizes.4 in
+    let few : r.q ^ (r.n + d.k - 1) ≤ most_words = rw (sym sized.0, sym sized.1, sym sized.3, sym s.whole) s.words.few in
     let same : r.q ≡ d.q = sym sized.0 ∙ sized.4 in
     grind (arith, nat_tests)
 

@@ -4,7 +4,8 @@ use Rattle.std.proofs.Math.IntN.{+ℤ_assoc, +ℤ_comm, +ℤ_idl, +ℤ_invr}
 use Rattle.fault.specs.Limits.{most_window, most_width}
 use Rattle.fault.specs.Refusals.{Refusal}
 use Rattle.charge.specs.Groups.{Group, Kind}
-use Rattle.charge.specs.Kinds.{voice_group, voices, signed}
+use Rattle.charge.specs.Kinds.{voice_group, signed}
+use Rattle.charge.specs.Ranges.{voices_range}
 use Rattle.charge.specs.Residues.{Below}
 use Rattle.automaton.specs.Words.{Letters}
 use Rattle.automaton.specs.Meanings.{Local, Weights, next, total}
@@ -64,9 +65,9 @@ integers = record {
 abbrev pub whole : Weights (Below (2 ^ 64)) → Weights ℤ
 whole d = record { q = d.q; k = d.k; charges = map signed d.charges }
 
--- each charge may be an entry of a density in voices
+-- each charge, read as a whole number, is in the range of an entry in voices
 abbrev pub InRange : Weights (Below (2 ^ 64)) → Type 0
-InRange d = (i : ℕ) → voices.entry (slice_index_or d.charges i voice_group.zero) ≡ true
+InRange d = (i : ℕ) → voices_range (signed (slice_index_or d.charges i voice_group.zero)) ≡ true
 
 -- with entries in range, what a verdict on voices says is true of whole numbers without bounds
 abbrev pub VerdictWhole : Type 0

@@ -1,10 +1,12 @@
 -- Rules and densities with the sizes that a label keeps of them. Assumes nothing.
 use Rattle.std.proofs.Common.{subst}
-use Rattle.std.specs.Prelude.{◌≡◌, ℕ, ◌+◌, ◌-◌, ◌^◌, ◌<◌, List, slice_index}
+use Rattle.std.specs.Prelude.{◌≡◌, ℕ, ◌+◌, ◌-◌, ◌^◌, ◌<◌, ◌≤◌, List, slice_index}
+use Rattle.fault.specs.Limits.{most_words}
 use Rattle.automaton.specs.declared.words.Words.{Words}
 use Rattle.automaton.specs.Words.{code, word}
 use Rattle.automaton.specs.Tables.{length-table}
-use Rattle.automaton.specs.Meanings.{Local, Weights, DensitySizes, Weighed}
+use Rattle.automaton.specs.Meanings.{Local, Weights, DensitySizes}
+use Rattle.criterion.specs.Labelled.{Labelled}
 use Rattle.bench.specs.declared.sizes.RuleSizes.{RuleSizes}
 use Rattle.bench.specs.declared.sizes.TwoSizes.{TwoSizes}
 use Rattle.bench.specs.Labels.{next_letters, listed}
@@ -26,12 +28,12 @@ second_sized s d = record { q = s.words.q; k = s.second; charges = d.charges }
 abbrev pub SizesOf : {A : Type 0} → RuleSizes → Local → Weights A → Type 0
 SizesOf s r d = (s.words.q ≡ r.q) × (s.n ≡ r.n) × (s.l ≡ r.l) × (s.k ≡ d.k) × (s.words.q ≡ d.q)
 
-pub listed_weighed : {A : Type 0} (q m : ℕ) (d : List ℕ → A) → DensitySizes q m → Weighed (listed q m d)
-listed_weighed q m d sizes = record { sizes = sizes; each = length-table (q ^ m) (λ c. d (word q m c)) }
+pub listed-labelled : {A : Type 0} (q m : ℕ) (d : List ℕ → A) → DensitySizes q m → q ^ m ≤ most_words → Labelled (listed q m d)
+listed-labelled q m d sizes few = record { sizes = sizes; few = few; each = length-table (q ^ m) (λ c. d (word q m c)) }
 
 -- a label on these words has a charge for each
-pub label_weighed : {A : Type 0} (w : Words) (m : ℕ) → w.m ≡ m → (d : List ℕ → A) → Weighed (listed w.q m d)
-label_weighed w m e d = listed_weighed w.q m d (subst (DensitySizes w.q) e w.sizes)
+pub words-labelled : {A : Type 0} (w : Words) (m : ℕ) → w.m ≡ m → (d : List ℕ → A) → Labelled (listed w.q m d)
+words-labelled w m e d = listed-labelled w.q m d (subst (DensitySizes w.q) e w.sizes) (subst (λ n. w.q ^ n ≤ most_words) e w.few)
 
 -- the code of the next letters of the word with a code
 abbrev pub next_word : RuleSizes → Local → ℕ → ℕ

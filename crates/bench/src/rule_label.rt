@@ -1,7 +1,7 @@
 // The label of a rule under a density.
 ghost use Rattle.std.specs.Prelude.{◌≡◌, ◌+◌, ◌-◌, ◌/◌, ◌%◌, ◌^◌, ◌<◌, ◌≤◌, length, slice_index, MatchOption};
 ghost use Rattle.bench.specs.Labels.{rule_label, rule_label_list};
-ghost use Rattle.bench.specs.Sized.{sized_rule, sized_density, label_weighed, next_word, KnowsNext};
+ghost use Rattle.bench.specs.Sized.{sized_rule, sized_density, words-labelled, next_word, KnowsNext};
 
 use crate::sizes::RuleSizes;
 use crate::state::Parts;
@@ -23,7 +23,7 @@ pub struct RuleLabel<'a, R: Rule, D> {
 impl<C: Charge, R: Rule, D: Density<C>> Label<C> for RuleLabel<'_, R, D> {
     ghost labels = { λ K t. rule_label_list K.group (sized_rule t.sizes (R.meaning t.parts.now.rule)) (sized_density t.sizes (D.weights K t.parts.now.density)) };
 
-    ghost lawful = { λ K t. label_weighed t.sizes.words (t.sizes.n + t.sizes.k - 1) t.sizes.whole (rule_label K.group (sized_rule t.sizes (R.meaning t.parts.now.rule)) (sized_density t.sizes (D.weights K t.parts.now.density))) };
+    ghost lawful = { λ K t. words-labelled t.sizes.words (t.sizes.n + t.sizes.k - 1) t.sizes.whole (rule_label K.group (sized_rule t.sizes (R.meaning t.parts.now.rule)) (sized_density t.sizes (D.weights K t.parts.now.density))) };
 
     fn q(&self) -> usize {
         self.sizes.words.q

@@ -12,7 +12,7 @@ use Rattle.cases.specs.Examples.{Count, elementary, letter_count}
 use Rattle.cases.specs.WorkedLog.{session, counts, WorkedLog}
 
 lawful_184 : Lawful (elementary 184)
-lawful_184 = record { sizes = grind arith; few = omega arith; each = refl; letters = ring-letters 2 (elementary 184).answers refl }
+lawful_184 = record { sizes = grind arith; each = refl; letters = ring-letters 2 (elementary 184).answers refl }
 
 letters_weighed : Weighed letter_count
 letters_weighed = record { sizes = grind arith; each = refl }

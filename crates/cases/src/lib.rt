@@ -15,6 +15,8 @@ mod reading;
 #[cfg(test)]
 mod text;
 #[cfg(test)]
+mod wide;
+#[cfg(test)]
 mod writing;
 
 pub use examples::worked_examples;

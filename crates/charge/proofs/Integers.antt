@@ -4,7 +4,7 @@ use borrow.Author.Differences.{up, down}
 use borrow.Author.Gap.{read_sfits}
 use lib.IntN.{+ℤ_invr}
 use Rattle.std.proofs.lemmas.Int.{ints, of_z-to_z}
-use Rattle.charge.specs.Kinds.{voice_group, voice_means, voices, signed}
+use Rattle.charge.specs.Kinds.{voice_group, voice_means, signed}
 use Rattle.charge.specs.Ranges.{voices_range}
 use Rattle.charge.specs.Residues.{Below, below_eq}
 use Rattle.charge.proofs.Sums.{neg_is}
@@ -40,6 +40,6 @@ range_small : (z : ℤ) → voices_range z ≡ true → nat_abs z ≤ 2 ^ 31
 range_small (pos n) e = grind arith
 range_small (negsuc n) e = grind arith
 
--- the size of an entry
-pub entry_small : (x : Below (2 ^ 64)) → voices.entry x ≡ true → nat_abs (signed x) ≤ 2 ^ 31
+-- the size of a charge in the range of an entry
+pub entry_small : (x : Below (2 ^ 64)) → voices_range (signed x) ≡ true → nat_abs (signed x) ≤ 2 ^ 31
 entry_small x e = range_small (signed x) e

@@ -1,5 +1,5 @@
 -- What a kind of charge means: a commutative group. Assumes nothing.
-use Rattle.std.specs.Prelude.{◌≡◌, ℕ, zero, suc, Bool, true, Decides}
+use Rattle.std.specs.Prelude.{◌≡◌, ℕ, zero, suc, Bool, Decides}
 
 -- A commutative group: sums may be bracketed in any way and taken in either order, zero adds nothing,
 -- and an element plus its opposite is zero.
@@ -22,11 +22,10 @@ sum_over G f zero = G.zero
 sum_over G f (suc n) = G.add (sum_over G f n) (f n)
 
 -- A kind of charge: the group, what each charge means there, whether two meanings are the same, and which
--- meanings may be entries of a density. Zero may be one.
+-- charges may be entries of a density: two charges with one meaning may differ in that.
 pub record Kind (C : Type 0) : Type 1 where
   pub group : Group
   pub means : C → group.Carrier
   pub same : group.Carrier → group.Carrier → Bool
   pub decides : (x y : group.Carrier) → Decides (same x y) (x ≡ y)
-  pub entry : group.Carrier → Bool
-  pub zero_enters : entry group.zero ≡ true
+  pub entry : C → Bool

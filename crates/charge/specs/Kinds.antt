@@ -1,5 +1,5 @@
 -- What the charges of each delivered kind mean. Assumes nothing.
-use Rattle.std.specs.Prelude.{ℕ, ◌%◌, ◌^◌, true, ◌&&◌, ℤ, pos, unsigned_abs, refl}
+use Rattle.std.specs.Prelude.{ℕ, ◌%◌, ◌^◌, true, ◌&&◌, ℤ, pos, unsigned_abs}
 use Rattle.std.proofs.Common.{lit<, pow_pos, of_z, to_z}
 use Rattle.std.specs.Int.{int_rem_euclid, w64}
 use Rattle.charge.specs.Groups.{Group, Kind}
@@ -35,8 +35,7 @@ voices = record {
   means = λ v. voice_means v.count;
   same = same_below;
   decides = decides_below;
-  entry = λ x. voices_range (signed x);
-  zero_enters = refl;
+  entry = λ v. voices_range v.count;
 }
 
 -- the residue of a class
@@ -50,7 +49,6 @@ pitch = record {
   same = same_below;
   decides = decides_below;
   entry = λ _. true;
-  zero_enters = refl;
 }
 
 -- the low 16 bits of a number
@@ -64,7 +62,6 @@ channels = record {
   same = same_below;
   decides = decides_below;
   entry = λ _. true;
-  zero_enters = refl;
 }
 
 -- each part by itself
@@ -74,6 +71,5 @@ both = record {
   means = λ b. (voices.means b.voices, pitch.means b.pitch);
   same = same_pair voices.same pitch.same;
   decides = decides_pair voices.same pitch.same voices.decides pitch.decides;
-  entry = λ x. voices.entry x.0 && pitch.entry x.1;
-  zero_enters = refl;
+  entry = λ b. voices.entry b.voices && pitch.entry b.pitch;
 }

@@ -36,7 +36,7 @@ pub trait Charge: Copy {
 
     // Whether the charge may be an entry of a density.
     fn is_entry(self) -> bool
-        ensures { result ≡ kind.entry (kind.means self) };
+        ensures { result ≡ kind.entry self };
 }
 
 // One charge less another.

@@ -2,7 +2,8 @@
 use Rattle.std.proofs.Common.{◌≡◌, ℕ, suc, ◌+◌, ◌-◌, ◌*◌, ◌/◌, ◌%◌, ◌^◌, ◌<◌, ◌≤◌, Bool, true, false, cond, not, List, [], ◌∷◌, map, length, get_or, take, drop, Some, None, Decides, Option, sym, refl, ap, ◌∙◌, subst, ap₂, mod-lt, div-lt_iff_lt-mul, add-one, arith, take_at}
 use Rattle.charge.specs.Groups.{Kind, minus}
 use Rattle.automaton.specs.Words.{word, table}
-use Rattle.automaton.specs.Meanings.{Weights, Weighed, weight}
+use Rattle.automaton.specs.Meanings.{Weights, weight}
+use Rattle.criterion.specs.Labelled.{Labelled}
 use Rattle.automaton.proofs.Codes.{length-word, drop-word, code-word}
 use Rattle.criterion.specs.Search.{first_of, J, crossings, fails, failing}
 use Rattle.criterion.proofs.Sizes.{some-letters, one_more, code-within, heads-past}
@@ -37,16 +38,16 @@ decides-same true b x y = sym (y.1 (x.0 refl))
 decides-same false true x y = x.1 (y.0 refl)
 decides-same false false x y = refl
 
-module _ {C : Type 0} (K : Kind C) (d : Weights K.group.Carrier) (weighed : Weighed d) (c : ℕ) where
+module _ {C : Type 0} (K : Kind C) (d : Weights K.group.Carrier) (labelled : Labelled d) (c : ℕ) where
   take_head : take (d.k - 1) (word d.q d.k c) ≡ word d.q (d.k - 1) (c / d.q)
   take_head =
-      ap (λ n. take (d.k - 1) (word d.q n c)) (sym (one_more d weighed))
+      ap (λ n. take (d.k - 1) (word d.q n c)) (sym (one_more d labelled))
       ∙ take_at (word d.q (d.k - 1) (c / d.q)) (c % d.q ∷ []) (d.k - 1) (length-word d.q (d.k - 1) (c / d.q))
 
   drop-first : drop 1 (word d.q d.k c) ≡ word d.q (d.k - 1) (c % d.q ^ (d.k - 1))
   drop-first =
-      ap (λ n. drop 1 (word d.q n c)) (sym (one_more d weighed))
-      ∙ drop-word d.q (some-letters d weighed) (d.k - 1) c
+      ap (λ n. drop 1 (word d.q n c)) (sym (one_more d labelled))
+      ∙ drop-word d.q (some-letters d labelled) (d.k - 1) c
 
   -- the test of what stands in a strip of crossings is the test of the word
   pub fails-at : (strip : List C) (head : ℕ) (front back crosses : C) (same : Bool) →
@@ -62,9 +63,9 @@ module _ {C : Type 0} (K : Kind C) (d : Weights K.group.Carrier) (weighed : Weig
       let G = K.group in
       let w = word d.q d.k c in
       let at : ℕ → G.Carrier = λ v. J K 0 d (word d.q (d.k - 1) v) in
-      let some : 0 < d.q = some-letters d weighed in
+      let some : 0 < d.q = some-letters d labelled in
       let within : c < d.q ^ d.k =
-      code-within d weighed c heads d.q count refl ((div-lt_iff_lt-mul some).0 (subst (λ v. v < heads) (sym is-head) below)) in
+      code-within d labelled c heads d.q count refl ((div-lt_iff_lt-mul some).0 (subst (λ v. v < heads) (sym is-head) below)) in
       let all : map K.means strip ≡ table heads at = filled ∙ ap (λ n. table n at) (sym count) in
       let first : K.means front ≡ J K 0 d (take (d.k - 1) w) =
       filled_at K.means at strip heads head front all below at_front
@@ -86,7 +87,7 @@ abbrev pub failing_from : {C : Type 0} → (K : Kind C) → Weights K.group.Carr
 failing_from K d i = first_below (λ c. fails K 0 d (word d.q d.k c)) (d.q ^ d.k) i
 
 -- one word of the search, whose test answers b
-module _ {C : Type 0} (K : Kind C) (d : Weights K.group.Carrier) (weighed : Weighed d) (heads q head last c : ℕ) (b : Bool)
+module _ {C : Type 0} (K : Kind C) (d : Weights K.group.Carrier) (labelled : Labelled d) (heads q head last c : ℕ) (b : Bool)
     (count : heads ≡ d.q ^ (d.k - 1)) (same-q : q ≡ d.q) (is : c ≡ head * q + last) (below : c < heads * q)
     (so_far : failing K 0 d ≡ failing_from K d (head * d.q + last)) (tested : b ≡ fails K 0 d (word d.q d.k c)) where
   here : head * d.q + last ≡ c
@@ -96,17 +97,17 @@ module _ {C : Type 0} (K : Kind C) (d : Weights K.group.Carrier) (weighed : Weig
   search_more h =
       so_far
       ∙ ap (failing_from K d) here
-      ∙ first_more (λ t. fails K 0 d (word d.q d.k t)) (d.q ^ d.k) c (code-within d weighed c heads q count same-q below) (sym tested ∙ h)
+      ∙ first_more (λ t. fails K 0 d (word d.q d.k t)) (d.q ^ d.k) c (code-within d labelled c heads q count same-q below) (sym tested ∙ h)
       ∙ ap (failing_from K d) (omega (arith, here))
 
   pub search-stop : b ≡ true → Some c ≡ failing K 0 d
   search-stop h = sym
       (so_far
       ∙ ap (failing_from K d) here
-      ∙ first-stop (λ t. fails K 0 d (word d.q d.k t)) (d.q ^ d.k) c (code-within d weighed c heads q count same-q below) (sym tested ∙ h))
+      ∙ first-stop (λ t. fails K 0 d (word d.q d.k t)) (d.q ^ d.k) c (code-within d labelled c heads q count same-q below) (sym tested ∙ h))
 
 -- all words are searched
-pub search_end : {C : Type 0} (K : Kind C) (d : Weights K.group.Carrier) (weighed : Weighed d) (head : ℕ) → d.q ^ (d.k - 1) ≤ head →
+pub search_end : {C : Type 0} (K : Kind C) (d : Weights K.group.Carrier) (labelled : Labelled d) (head : ℕ) → d.q ^ (d.k - 1) ≤ head →
     failing K 0 d ≡ failing_from K d (head * d.q) → None ≡ failing K 0 d
-search_end K d weighed head past so_far =
-    sym (so_far ∙ first_none (λ t. fails K 0 d (word d.q d.k t)) (d.q ^ d.k) (head * d.q) (heads-past d weighed head past))
+search_end K d labelled head past so_far =
+    sym (so_far ∙ first_none (λ t. fails K 0 d (word d.q d.k t)) (d.q ^ d.k) (head * d.q) (heads-past d labelled head past))

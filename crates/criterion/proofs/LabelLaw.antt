@@ -4,7 +4,8 @@ use Rattle.std.proofs.lemmas.Bool.{true≢false, not-false, cond_both}
 use Rattle.std.specs.Option.{option_map}
 use Rattle.charge.specs.Groups.{Kind, minus}
 use Rattle.automaton.specs.Words.{Word, word}
-use Rattle.automaton.specs.Meanings.{Weights, Weighed, weight}
+use Rattle.automaton.specs.Meanings.{Weights, weight}
+use Rattle.criterion.specs.Labelled.{Labelled}
 use Rattle.automaton.proofs.Codes.{word-word, every-word}
 use Rattle.criterion.specs.Balance.{ring_sum, Balanced, ring_a, ring_b, SumsToZero}
 use Rattle.criterion.proofs.Statements.{Holds}
@@ -41,7 +42,7 @@ module _ (test : ℕ → Bool) where
       go true is e after = let same : i ≡ c = grind arith in ap test (sym same) ∙ is
       go false is e after = after e
 
-module _ {C : Type 0} (K : Kind C) (z : ℕ) (d : Weights K.group.Carrier) (weighed : Weighed d) (some : z < d.q) where
+module _ {C : Type 0} (K : Kind C) (z : ℕ) (d : Weights K.group.Carrier) (labelled : Labelled d) (some : z < d.q) where
   abbrev label : List ℕ → K.group.Carrier
   label = weight K.group d
 
@@ -67,21 +68,21 @@ module _ {C : Type 0} (K : Kind C) (z : ℕ) (d : Weights K.group.Carrier) (weig
   -- no word fails
   holds : failing K z d ≡ None → Holds K.group label z d.q r
   holds e w is =
-      (every-word d.q (some-letters d weighed) Even d.k).0
+      (every-word d.q (some-letters d labelled) Even d.k).0
       (λ c h. even_from (word d.q d.k c) (ap test (omega arith) ∙ first_none test 0 (d.q ^ d.k) e c h))
-      w (is.0 ∙ one_more d weighed, is.1)
+      w (is.0 ∙ one_more d labelled, is.1)
 
   holds_none : Holds K.group label z d.q r → failing K z d ≡ None
   holds_none all =
       none_first test 0 (d.q ^ d.k)
-      (λ t h. let is = word-word d.q (some-letters d weighed) d.k (0 + t) in
-      from_even (word d.q d.k (0 + t)) (all (word d.q d.k (0 + t)) (is.0 ∙ sym (one_more d weighed), is.1)))
+      (λ t h. let is = word-word d.q (some-letters d labelled) d.k (0 + t) in
+      from_even (word d.q d.k (0 + t)) (all (word d.q d.k (0 + t)) (is.0 ∙ sym (one_more d labelled), is.1)))
 
   exact : Exact K z d
   exact = (
-    (λ e. subst (SumsToZero K.group label d.q) (one_more d weighed) ((criterion K.group z label d.q r some).0 (holds (unmapped (failing K z d) e)))),
+    (λ e. subst (SumsToZero K.group label d.q) (one_more d labelled) ((criterion K.group z label d.q r some).0 (holds (unmapped (failing K z d) e)))),
     (λ sums. ap (option_map found)
-        (holds_none ((criterion K.group z label d.q r some).1 (subst (SumsToZero K.group label d.q) (sym (one_more d weighed)) sums)))),
+        (holds_none ((criterion K.group z label d.q r some).1 (subst (SumsToZero K.group label d.q) (sym (one_more d labelled)) sums)))),
   )
     where
       unmapped : (o : Option ℕ) → option_map found o ≡ None → o ≡ None
@@ -91,7 +92,7 @@ module _ {C : Type 0} (K : Kind C) (z : ℕ) (d : Weights K.group.Carrier) (weig
   breaks : (w : List ℕ) → Word d.q (suc r) w → (Even w → ⊥) → BreakingRing K z d (shown K z d w)
   breaks w is uneven =
       let rings = break_shown K.group z label d.q r w some is uneven in
-      let more = one_more d weighed in
+      let more = one_more d labelled in
       let decided = K.decides (ring_sum K.group label d.k (ring_a z r w)) K.group.zero in
       cond_both (sums_to_zero K d (ring_a z r w)) (ring_b z r w) (ring_a z r w) (BreakingRing K z d)
       (λ is_zero.
@@ -113,8 +114,8 @@ module _ {C : Type 0} (K : Kind C) (z : ℕ) (d : Weights K.group.Carrier) (weig
       let all = holds e in
       (all, crossing_zero K.group z label d.q r some all, λ T balances nothing v is. crossing_only K.group z label T d.q r some balances nothing v is)
   shows (Some c) e =
-      let is = word-word d.q (some-letters d weighed) d.k c in
-      breaks (word d.q d.k c) (is.0 ∙ sym (one_more d weighed), is.1)
+      let is = word-word d.q (some-letters d labelled) d.k c in
+      breaks (word d.q d.k c) (is.0 ∙ sym (one_more d labelled), is.1)
       (λ even. true≢false (sym (first_passes test 0 (d.q ^ d.k) c e) ∙ from_even (word d.q d.k c) even))
 
   pub label_law : LabelLaw K z d

@@ -6,7 +6,8 @@ use Rattle.fault.specs.Answers.{and_then, front}
 use Rattle.fault.specs.Refusals.{Refusal}
 use Rattle.charge.specs.Groups.{Kind}
 use Rattle.automaton.specs.Words.{Letters, word, repeated}
-use Rattle.automaton.specs.Meanings.{Weights, Weighed, weight, total}
+use Rattle.automaton.specs.Meanings.{Weights, weight, total}
+use Rattle.criterion.specs.Labelled.{Labelled}
 use Rattle.automaton.specs.Making.{ring_checked}
 use Rattle.automaton.proofs.Codes.{length-word, word-word}
 use Rattle.automaton.proofs.Passes.{ring_ready}
@@ -42,7 +43,7 @@ module _ {C : Type 0} (K : Kind C) (d : Weights K.group.Carrier) where
         (K.decides (ring_sum K.group (weight K.group d) d.k ring) K.group.zero)
 
 -- the word of code c at the front of 23 zeros, cut to the length of ring A
-module _ {C : Type 0} (K : Kind C) (d : Weights K.group.Carrier) (weighed : Weighed d) (c q m : ℕ) (cells : List ℕ)
+module _ {C : Type 0} (K : Kind C) (d : Weights K.group.Carrier) (labelled : Labelled d) (c q m : ℕ) (cells : List ℕ)
     (same-q : q ≡ d.q) (same-m : m ≡ d.k) (written : cells ≡ front (word q m c) (replicate 23 0)) where
   abbrev cut : List ℕ
   cut = take (2 * m - 1) cells
@@ -52,20 +53,20 @@ module _ {C : Type 0} (K : Kind C) (d : Weights K.group.Carrier) (weighed : Weig
       let w : List ℕ = word q m c in
       let zeros : drop (length w) (replicate {A = ℕ} 23 0) ≡ replicate (23 - m) 0 =
       drop-replicate (length w) 23 0 ∙ ap (λ n. replicate (23 - n) 0) (length-word q m c) in
-      let parts : 2 * m - 1 ≡ length w + (m - 1) = omega (arith, length-word q m c, weighed.sizes.2) in
+      let parts : 2 * m - 1 ≡ length w + (m - 1) = omega (arith, length-word q m c, labelled.sizes.2) in
       ap (take (2 * m - 1)) (written ∙ ap (λ t. w ++ t) zeros)
       ∙ ap (λ n. take n (w ++ replicate (23 - m) 0)) parts
       ∙ take-append-add w (replicate (23 - m) 0) (m - 1)
-      ∙ ap (λ t. w ++ t) (take-replicate {X = ℕ} (m - 1) (23 - m) 0 (omega (arith, weighed.sizes.3)))
+      ∙ ap (λ t. w ++ t) (take-replicate {X = ℕ} (m - 1) (23 - m) 0 (omega (arith, labelled.sizes.3)))
       ∙ ap₂ (λ a b. word a b c ++ repeated 0 (b - 1)) same-q same-m
 
   pub cut_fits : ((1 ≤ length cut) × (length cut ≤ 4096)) × Letters d.q cut
   cut_fits =
-      let some = some-letters d weighed in
+      let some = some-letters d labelled in
       let whole = word-word d.q some d.k c in
-      let is = word_a 0 d.q (d.k - 1) (word d.q d.k c) some (whole.0 ∙ sym (one_more d weighed), whole.1) in
+      let is = word_a 0 d.q (d.k - 1) (word d.q d.k c) some (whole.0 ∙ sym (one_more d labelled), whole.1) in
       let size : length cut ≡ 2 * (d.k - 1) + 1 = ap length is-ring_a ∙ is.0 in
-      ((omega arith, omega (arith, weighed.sizes.3)), subst (Letters d.q) (sym is-ring_a) is.1)
+      ((omega arith, omega (arith, labelled.sizes.3)), subst (Letters d.q) (sym is-ring_a) is.1)
 
   -- the ring that is taken, by what ring A sums to
   module _ (b : Bool) (tested : ◌≡◌ {A = Result Bool Refusal} (Ok b) (Ok (sums_to_zero K d cut))) where

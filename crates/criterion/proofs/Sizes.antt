@@ -1,14 +1,15 @@
 -- How many words a label has. Assumes nothing.
 use Rattle.std.proofs.Common.{◌≡◌, ℕ, suc, ◌-◌, ◌*◌, ◌^◌, ◌<◌, ◌≤◌, sym, ap, ◌∙◌, subst, ap₂, le_trans, mul-le-mul_right, pow-suc, arith}
 use native.Mathlib.Nat.{pow-le-pow_right}
-use Rattle.automaton.specs.Meanings.{Weights, Weighed}
+use Rattle.automaton.specs.Meanings.{Weights}
+use Rattle.criterion.specs.Labelled.{Labelled}
 
-module _ {A : Type 0} (d : Weights A) (weighed : Weighed d) where
+module _ {A : Type 0} (d : Weights A) (labelled : Labelled d) where
   pub some-letters : 0 < d.q
-  some-letters = omega (arith, weighed.sizes.0)
+  some-letters = omega (arith, labelled.sizes.0)
 
   pub one_more : suc (d.k - 1) ≡ d.k
-  one_more = omega (arith, weighed.sizes.2)
+  one_more = omega (arith, labelled.sizes.2)
 
   -- a word is its first m - 1 letters and one more
   pub heads-words : d.q ^ (d.k - 1) * d.q ≡ d.q ^ d.k
@@ -17,7 +18,7 @@ module _ {A : Type 0} (d : Weights A) (weighed : Weighed d) where
   pub heads-few : d.q ^ (d.k - 1) ≤ 4096
   heads-few =
       let shorter : d.k - 1 ≤ d.k = omega arith in
-      le_trans (pow-le-pow_right some-letters shorter) weighed.sizes.4
+      le_trans (pow-le-pow_right some-letters shorter) labelled.few
 
   -- the power that is computed fits
   pub heads_fit : (q m : ℕ) → q ≡ d.q → m ≡ d.k → q ^ (m - 1) < 2 ^ 64

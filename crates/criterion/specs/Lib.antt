@@ -3,3 +3,4 @@ pub mod Search
 pub mod Strips
 pub mod Answers
 pub mod Laws
+pub mod Labelled

@@ -1,7 +1,8 @@
 // Labels: a charge for each word of the cells that one step can read.
 ghost use Rattle.std.specs.Prelude.{◌≡◌, slice_index_or};
 ghost use Rattle.charge.specs.Groups.{Kind};
-ghost use Rattle.automaton.specs.Meanings.{Weights, Weighed};
+ghost use Rattle.automaton.specs.Meanings.{Weights};
+ghost use Rattle.criterion.specs.Labelled.{Labelled, labelled_weighed};
 
 use automaton::Density;
 use charge::Charge;
@@ -11,7 +12,7 @@ use charge::Charge;
 pub trait Label<C: Charge> {
     ghost labels: { (K : Kind C) → Self → Weights K.group.Carrier };
 
-    ghost lawful: { (K : Kind C) (d : Self) → Weighed (labels K d) };
+    ghost lawful: { (K : Kind C) (d : Self) → Labelled (labels K d) };
 
     // The alphabet size.
     fn q(&self) -> usize
@@ -35,7 +36,7 @@ pub(crate) struct LabelDensity<'a, L> {
 impl<C: Charge, L: Label<C>> Density<C> for LabelDensity<'_, L> {
     ghost weights = { λ K d. L.labels K d.label.now };
 
-    ghost lawful = { λ K d. L.lawful K d.label.now };
+    ghost lawful = { λ K d. labelled_weighed (L.labels K d.label.now) (L.lawful K d.label.now) };
 
     fn q(&self) -> usize {
         self.label.q()

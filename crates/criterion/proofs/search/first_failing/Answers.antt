@@ -8,8 +8,8 @@ pub code_of-code-requires : goal.code_of-code-requires
 code_of-code-requires g c =
     let K = g.C.Charge.kind in
     let d = g.L.Label.labels K c.args.label.now in
-    let weighed = g.L.Label.lawful K c.args.label.now in
-    record { small = (omega (arith, weighed.sizes.1), omega (arith, heads-few d weighed, filled-count K d c.args.crossings.now c.requires)); within = (c.loop-head-test.true, c.loop-last-test.true) }
+    let labelled = g.L.Label.lawful K c.args.label.now in
+    record { small = (omega (arith, labelled.sizes.1), omega (arith, heads-few d labelled, filled-count K d c.args.crossings.now c.requires)); within = (c.loop-head-test.true, c.loop-last-test.true) }
 
 pub loop-last-preserved : goal.loop-last-preserved
 loop-last-preserved g c =

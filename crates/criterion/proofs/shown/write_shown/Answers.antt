@@ -17,18 +17,18 @@ pub sums_to_zero-requires : goal.sums_to_zero-requires
 sums_to_zero-requires g c =
     let K = g.C.Charge.kind in
     let label = c.args.label.now in
-    let weighed = g.L.Label.lawful K label in
-    let fits = cut_fits K (g.L.Label.labels K label) weighed c.args.code c.q.result c.m-m.result _ c.q.ensures c.m-m.ensures
-    (written c.q.result c.m-m.result c.args.code _ (omega (arith, weighed.sizes.3, c.m-m.ensures)) c.write_word.ensures) in
+    let labelled = g.L.Label.lawful K label in
+    let fits = cut_fits K (g.L.Label.labels K label) labelled c.args.code c.q.result c.m-m.result _ c.q.ensures c.m-m.ensures
+    (written c.q.result c.m-m.result c.args.code _ (omega (arith, labelled.sizes.3, c.m-m.ensures)) c.write_word.ensures) in
     record { length = fits.0; letters = fits.1 }
 
 pub returns : goal.returns
 returns g c =
     let K = g.C.Charge.kind in
     let label = c.args.label.now in
-    let weighed = g.L.Label.lawful K label in
-    let is = c.ring_of.ensures ∙ shown-taken K (g.L.Label.labels K label) weighed c.args.code c.q.result c.m-m.result _ c.q.ensures c.m-m.ensures
-    (written c.q.result c.m-m.result c.args.code _ (omega (arith, weighed.sizes.3, c.m-m.ensures)) c.write_word.ensures)
+    let labelled = g.L.Label.lawful K label in
+    let is = c.ring_of.ensures ∙ shown-taken K (g.L.Label.labels K label) labelled c.args.code c.q.result c.m-m.result _ c.q.ensures c.m-m.ensures
+    (written c.q.result c.m-m.result c.args.code _ (omega (arith, labelled.sizes.3, c.m-m.ensures)) c.write_word.ensures)
     _ c.in_ok-zero.ensures in
     let all = copied _ _ c.args.strip.now c.copy_ring.new.strip c.copy_ring.result is c.copy_ring.ensures.answer c.copy_ring.ensures.strip in
     record { answer = all.0; strip = all.1 }

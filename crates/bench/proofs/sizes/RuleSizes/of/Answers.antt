@@ -1,6 +1,6 @@
-use Rattle.std.proofs.Common.{◌-◌, ◌<◌, arith}
+use Rattle.std.proofs.Common.{ℕ, ◌+◌, ◌-◌, ◌^◌, ◌<◌, ◌≤◌, arith}
 use Rattle.automaton.proofs.Codes.{power-some}
-use Rattle.bench.proofs.Fits.{words_sizes}
+use Rattle.bench.proofs.Fits.{words_sizes, part_few}
 use Rattle.bench.proofs.sizes.RuleSizes.of.Goals as goal
 
 pub invariant_of-words : goal.invariant_of-words
@@ -10,7 +10,15 @@ invariant_of-words g c =
     let rule = lawful.sizes in
     let density = weighed.sizes in
     let p = words_sizes _ _ _ _ (omega arith) (omega arith) (omega arith) c.in_ok-count.ensures in
-    record { sizes = p.0; counted = p.1 }
+    record { sizes = p.0; few = p.1; counted = p.2 }
+
+pub pow-requires : goal.pow-requires
+pow-requires g c =
+    let rule = (g.R.Rule.lawful c.args.parts.now.rule).sizes in
+    let density = (g.D.Density.lawful g.C.Charge.kind c.args.parts.now.density).sizes in
+    let m : ℕ = c.n-n.result + c.k-k.result - 1 in
+    let few : c.q-q.result ^ m ≤ 4096 = (words_sizes c.q-q.result c.q.result m c.in_ok-count.count (omega arith) (omega arith) (omega arith) c.in_ok-count.ensures).1 in
+    omega (arith, part_few c.q-q.result c.n-n.result m (omega arith) (omega arith) few)
 
 pub invariant_of-result-clause-divides : goal.invariant_of-result-clause-divides
 invariant_of-result-clause-divides g c =

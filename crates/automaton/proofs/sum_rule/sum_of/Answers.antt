@@ -1,6 +1,6 @@
 use Rattle.std.proofs.Common.{mod-lt, arith}
 use Rattle.automaton.proofs.Lookups.{sum_more}
-use Rattle.automaton.proofs.sum_rule.BySumLookup.place.Goals as goal
+use Rattle.automaton.proofs.sum_rule.sum_of.Goals as goal
 
 pub loop-preserved : goal.loop-preserved
 loop-preserved c =
