@@ -4,3 +4,4 @@ pub mod Meanings
 pub mod Making
 pub mod Lookups
 pub mod Shown
+pub mod Meant

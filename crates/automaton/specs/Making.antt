@@ -1,5 +1,5 @@
 -- Rules and densities as they are made, and when they are refused. Assumes nothing.
-use Rattle.std.specs.Prelude.{ℕ, suc, ◌+◌, ◌-◌, ◌*◌, ◌^◌, Bool, cond, List, [], ◌∷◌, map, length, take, Ok, Err, Result, ◌==◌, nat_le, nat_lt, slice_index, slice_index_or}
+use Rattle.std.specs.Prelude.{ℕ, suc, ◌+◌, ◌-◌, ◌*◌, ◌^◌, ◌<◌, Bool, cond, List, [], ◌∷◌, map, length, take, Ok, Err, Result, ◌==◌, nat_le, nat_lt, slice_index, slice_index_or}
 use Rattle.std.specs.Borrow.{Bor}
 use Rattle.fault.specs.declared.Fault.{Fault}
 use Rattle.fault.specs.declared.Stop.{Stop}
@@ -15,6 +15,10 @@ use Rattle.automaton.specs.Meanings.{Local, Weights}
 -- the rule whose answers stand in a table of letters, each at the place of its word's code
 abbrev pub lookup_rule : (ℕ → ℕ → ℕ → ℕ) → ℕ → ℕ → ℕ → List ℕ → Local
 lookup_rule place q n l letters = record { q = q; n = n; l = l; answers = table (q ^ n) (λ c. slice_index letters (place q n c)) }
+
+-- the place of each word of n letters below q is below `places`
+abbrev pub LooksBelow : ℕ → (ℕ → ℕ → ℕ → ℕ) → ℕ → ℕ → Type 0
+LooksBelow places place q n = (c : ℕ) → c < q ^ n → place q n c < places
 
 -- in the order of the codes
 abbrev pub by_code : ℕ → ℕ → ℕ → ℕ
@@ -81,9 +85,9 @@ taken allows stop need items =
     (Err (refused_at ShortStrip 0))
 
 -- a lent part of a strip as a list
-abbrev pub lent : {X : Type 0} → Result (Bor (List X)) Fault → Result (List X) Refusal
-lent (Ok s) = Ok s.now
-lent (Err f) = Err (refusal f)
+abbrev pub lent_items : {X : Type 0} → Result (Bor (List X)) Fault → Result (List X) Refusal
+lent_items (Ok s) = Ok s.now
+lent_items (Err f) = Err (refusal f)
 
 -- the letters of a rule that takes `need` of them, or the refusal with the lowest code
 abbrev pub rule_making : ℕ → ℕ → ℕ → ℕ → List ℕ → Result (List ℕ) Refusal

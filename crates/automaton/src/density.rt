@@ -21,5 +21,6 @@ pub trait Density<C: Charge> {
 
     // The charge of the word of this code, and zero past the last code.
     fn charge(&self, code: usize) -> C
-        ensures { C.kind.means result ≡ slice_index_or (weights C.kind self.now).charges code C.kind.group.zero };
+        ensures { C.kind.means result
+            ≡ slice_index_or (weights C.kind self.now).charges code C.kind.group.zero };
 }

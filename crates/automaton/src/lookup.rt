@@ -3,7 +3,7 @@ ghost use Rattle.std.specs.Prelude.{◌≡◌, ℕ, ◌^◌, ◌<◌, Ok, Err, M
 ghost use Rattle.fault.specs.Refusals.{refusal};
 ghost use Rattle.fault.specs.declared.Stop.TheVariants.{BadLetter};
 ghost use Rattle.automaton.specs.Words.{Letters};
-ghost use Rattle.automaton.specs.Making.{lookup_rule, zero_rule, taken};
+ghost use Rattle.automaton.specs.Making.{lookup_rule, LooksBelow, zero_rule, taken};
 
 use crate::making::{Alphabet, take_checked};
 use crate::words::Words;
@@ -20,9 +20,11 @@ pub(crate) struct Table<'a> {
 }
 
 impl<'a> Table<'a> {
+    ghost use Rattle.automaton.specs.Meant.{looked_up};
+
     // The table of two letters and a window of one cell that has no letters: wherever answers are looked up, they are 0.
     pub fn zero() -> Table<'a>
-        ensures { (place : ℕ → ℕ → ℕ → ℕ) → lookup_rule place result.words.q result.words.m result.l result.letters.now ≡ zero_rule }
+        ensures { (place : ℕ → ℕ → ℕ → ℕ) → looked_up place result ≡ zero_rule }
     {
         Table {
             words: Words::least(),
@@ -34,8 +36,11 @@ impl<'a> Table<'a> {
     // The first `places` letters of a strip: a rule that looks up only these is the rule of the whole strip.
     pub fn of(words: Words, l: u64, places: usize, letters: &'a [u8]) -> Result<Table<'a>, Fault>
         requires { l < words.m }
-        ensures answer { MatchResult result (λ t. taken (λ a. nat_lt a words.q) BadLetter places letters.now ≡ Ok t.letters.now) (λ f. taken (λ a. nat_lt a words.q) BadLetter places letters.now ≡ Err (refusal f)) }
-        ensures rule { IfOk result (λ t. (place : ℕ → ℕ → ℕ → ℕ) → ((c : ℕ) → c < words.q ^ words.m → place words.q words.m c < places) → lookup_rule place t.words.q t.words.m t.l t.letters.now ≡ lookup_rule place words.q words.m l letters.now) }
+        ensures answer { let taking = taken (λ a. nat_lt a words.q) BadLetter places letters.now in
+            MatchResult result (λ t. taking ≡ Ok t.letters.now) (λ f. taking ≡ Err (refusal f)) }
+        ensures rule { IfOk result (λ t. (place : ℕ → ℕ → ℕ → ℕ) →
+            LooksBelow places place words.q words.m →
+            looked_up place t ≡ lookup_rule place words.q words.m l letters.now) }
     {
         let letters = take_checked(&Alphabet { q: words.q }, places, letters)?;
         Ok(Table {
@@ -47,7 +52,9 @@ impl<'a> Table<'a> {
 
     // The letter at the place of a code, and 0 past the last code.
     pub fn answer(self, code: usize, place: usize) -> u8
-        ensures { (place_of : ℕ → ℕ → ℕ → ℕ) → place ≡ place_of self.entry.words.q self.entry.words.m code → result ≡ slice_index (lookup_rule place_of self.entry.words.q self.entry.words.m self.entry.l self.entry.letters.now).answers code }
+        ensures { (place_of : ℕ → ℕ → ℕ → ℕ) →
+            place ≡ place_of self.entry.words.q self.entry.words.m code →
+            result ≡ slice_index (looked_up place_of self.entry).answers code }
     {
         if code < self.words.count {
             letter_at(self.letters, place)

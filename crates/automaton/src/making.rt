@@ -6,7 +6,7 @@ ghost use Rattle.fault.specs.declared.Stop.TheVariants.{BadLetter, BadEntry};
 ghost use Rattle.fault.specs.Answers.{plainly, and_then};
 ghost use Rattle.fault.specs.Checks.{tested, each_fits};
 ghost use Rattle.fault.specs.Refusals.{refusal, refused_at};
-ghost use Rattle.automaton.specs.Making.{rule_tests, density_tests, counted, lent, taken};
+ghost use Rattle.automaton.specs.Making.{rule_tests, density_tests, counted, lent_items, taken};
 
 use crate::words::Words;
 use charge::Charge;
@@ -61,7 +61,10 @@ impl<C: Charge> Test<C> for Entries {
 
 // The words of a rule's window, which is longer than the reach.
 pub(crate) fn check_rule(q: u64, n: u64, l: u64) -> Result<Words, Fault>
-    ensures { MatchResult result (λ w. (and_then (tested (rule_tests q n l)) (λ _. counted q n) ≡ Ok w.count) × (w.q ≡ q) × (w.m ≡ n) × (l < n)) (λ f. and_then (tested (rule_tests q n l)) (λ _. counted q n) ≡ Err (refusal f)) }
+    ensures { let count = and_then (tested (rule_tests q n l)) (λ _. counted q n) in
+        MatchResult result
+        (λ w. (count ≡ Ok w.count) × (w.q ≡ q) × (w.m ≡ n) × (l < n))
+        (λ f. count ≡ Err (refusal f)) }
 {
     Stop::BadAlphabet.unless(LEAST_LETTERS <= q && q <= MOST_LETTERS)?;
     Stop::BadWindow.unless(1 <= n && n <= MOST_WINDOW)?;
@@ -71,7 +74,10 @@ pub(crate) fn check_rule(q: u64, n: u64, l: u64) -> Result<Words, Fault>
 
 // The words of a density's width.
 pub(crate) fn check_density(q: u64, k: u64) -> Result<Words, Fault>
-    ensures { MatchResult result (λ w. (and_then (tested (density_tests q k)) (λ _. counted q k) ≡ Ok w.count) × (w.q ≡ q) × (w.m ≡ k)) (λ f. and_then (tested (density_tests q k)) (λ _. counted q k) ≡ Err (refusal f)) }
+    ensures { let count = and_then (tested (density_tests q k)) (λ _. counted q k) in
+        MatchResult result
+        (λ w. (count ≡ Ok w.count) × (w.q ≡ q) × (w.m ≡ k))
+        (λ f. count ≡ Err (refusal f)) }
 {
     Stop::BadAlphabet.unless(LEAST_LETTERS <= q && q <= MOST_LETTERS)?;
     Stop::BadWidth.unless(1 <= k && k <= MOST_WIDTH)?;
@@ -105,7 +111,7 @@ pub(crate) fn take_checked<'a, X: Copy, T: Test<X>>(
     need: usize,
     strip: &'a [X],
 ) -> Result<&'a [X], Fault>
-    ensures { lent result ≡ taken (T.allows test.now) T.STOP need strip.now }
+    ensures { lent_items result ≡ taken (T.allows test.now) T.STOP need strip.now }
 {
     Stop::ShortStrip.unless(need <= strip.len())?;
     let items = &strip[..need];

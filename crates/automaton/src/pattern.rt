@@ -1,10 +1,9 @@
 // Densities of one word and one charge.
-ghost use Rattle.std.specs.Prelude.{◌≡◌, ◌<◌, take, if◌then◌else◌, MatchResult, nat_eq, nat_lt};
+ghost use Rattle.std.specs.Prelude.{◌≡◌, ◌<◌, take, if◌then◌else◌, OnOk, OnErr, nat_eq, nat_lt};
 ghost use Rattle.fault.specs.Answers.{plainly};
 ghost use Rattle.automaton.specs.Words.{code};
 ghost use Rattle.fault.specs.declared.Stop.TheVariants.{BadLetter};
-ghost use Rattle.automaton.specs.Making.{pattern_density, zero_density, pattern_making, done, lent, taken};
-ghost use Rattle.automaton.specs.Lookups.{pattern_weighed};
+ghost use Rattle.automaton.specs.Making.{pattern_density, zero_density, pattern_making, done, lent_items, taken};
 
 use crate::density::Density;
 use crate::making::{Alphabet, check_density, take_checked};
@@ -23,9 +22,11 @@ pub struct PatternDensity<C> {
 }
 
 impl<C: Charge> Density<C> for PatternDensity<C> {
-    ghost weights = { λ K t. pattern_density K t.words.q t.words.m t.pattern t.charge };
+    ghost use Rattle.automaton.specs.Meant.{pattern_meant, pattern_meant-weighed};
 
-    ghost lawful = { λ K t. pattern_weighed K t.words.q t.words.m t.pattern t.charge t.words.sizes };
+    ghost weights = { pattern_meant };
+
+    ghost lawful = { pattern_meant-weighed };
 
     fn q(&self) -> usize {
         self.words.q
@@ -41,9 +42,11 @@ impl<C: Charge> Density<C> for PatternDensity<C> {
 }
 
 impl<C: Charge> PatternDensity<C> {
+    ghost use Rattle.automaton.specs.Meant.{pattern_meant};
+
     // The density of two letters that weigh nothing.
     pub fn zero() -> PatternDensity<C>
-        ensures { pattern_density C.kind result.words.q result.words.m result.pattern result.charge ≡ zero_density C.kind }
+        ensures { pattern_meant C.kind result ≡ zero_density C.kind }
     {
         PatternDensity {
             words: Words::least(),
@@ -55,7 +58,9 @@ impl<C: Charge> PatternDensity<C> {
     // Becomes the density of a word and its charge, or refuses and stays as it was.
     pub fn fill(&mut self, q: u64, k: u64, word: &[u8], charge: C) -> Result<(), Fault>
         ensures answer { plainly result ≡ done (pattern_making C.kind q k word.now charge) }
-        ensures density { MatchResult result (λ _. pattern_density C.kind self.new.words.q self.new.words.m self.new.pattern self.new.charge ≡ pattern_density C.kind q k (code q (take k word.now)) charge) (λ _. self.new ≡ self.old) }
+        ensures density { OnOk result (pattern_meant C.kind self.new
+            ≡ pattern_density C.kind q k (code q (take k word.now)) charge) }
+        ensures err { OnErr result (self.new ≡ self.old) }
     {
         let words = check_density(q, k)?;
         let letters = pattern_letters(words, word)?;
@@ -76,14 +81,15 @@ impl<C: Charge> PatternDensity<C> {
 
 // The letters of a pattern, from the front of a strip.
 fn pattern_letters<'a>(words: Words, strip: &'a [u8]) -> Result<&'a [u8], Fault>
-    ensures { lent result ≡ taken (λ a. nat_lt a words.q) BadLetter words.m strip.now }
+    ensures { lent_items result ≡ taken (λ a. nat_lt a words.q) BadLetter words.m strip.now }
 {
     take_checked(&Alphabet { q: words.q }, words.m, strip)
 }
 
 // The charge on the pattern itself, and zero on every other code.
 fn charge_on<C: Charge>(pattern: usize, charge: C, code: usize) -> C
-    ensures { C.kind.means result ≡ (if nat_eq code pattern then C.kind.means charge else C.kind.group.zero) }
+    ensures { C.kind.means result
+        ≡ (if nat_eq code pattern then C.kind.means charge else C.kind.group.zero) }
 {
     if code == pattern { charge } else { C::zero() }
 }

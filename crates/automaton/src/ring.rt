@@ -38,10 +38,15 @@ pub struct Ring<'a> {
 }
 
 impl<'a> Ring<'a> {
+    ghost use Rattle.automaton.specs.Meant.{RingOf};
+
     // The ring of these cells, with `room` for as many, or the refusal. The bound on q is the rule's or the density's.
     fn checked(q: usize, room: usize, cells: &'a [u8]) -> Result<Ring<'a>, Fault>
         requires { q ≤ 8 }
-        ensures { MatchResult result (λ r. (ring_checked q room cells.now ≡ Ok r.cells.now) × (r.q ≡ q) × (r.cells.now ≡ cells.now) × (length cells.now ≤ room)) (λ f. ring_checked q room cells.now ≡ Err (refusal f)) }
+        ensures { let checked = ring_checked q room cells.now in
+            MatchResult result
+            (λ r. (checked ≡ Ok r.cells.now) × RingOf q cells.now r × (length cells.now ≤ room))
+            (λ f. checked ≡ Err (refusal f)) }
     {
         Stop::BadLength.unless(1 <= cells.len() && cells.len() <= MOST_CELLS)?;
         Stop::ShortStrip.unless(cells.len() <= room)?;
@@ -51,7 +56,11 @@ impl<'a> Ring<'a> {
 
     // The ring of these cells under a rule, with `room` for as many, or the refusal.
     pub fn under<R: Rule>(rule: &R, room: usize, cells: &'a [u8]) -> Result<Ring<'a>, Fault>
-        ensures { MatchResult result (λ r. (ring_checked (R.meaning rule.now).q room cells.now ≡ Ok r.cells.now) × (r.q ≡ (R.meaning rule.now).q) × (r.cells.now ≡ cells.now) × (length cells.now ≤ room)) (λ f. ring_checked (R.meaning rule.now).q room cells.now ≡ Err (refusal f)) }
+        ensures { let q = (R.meaning rule.now).q in
+            let checked = ring_checked q room cells.now in
+            MatchResult result
+            (λ r. (checked ≡ Ok r.cells.now) × RingOf q cells.now r × (length cells.now ≤ room))
+            (λ f. checked ≡ Err (refusal f)) }
     {
         Ring::checked(rule.q(), room, cells)
     }
@@ -71,7 +80,8 @@ impl<'a> Ring<'a> {
 
     // The index of the cell `before` cells before cell i, a round or two on.
     fn index_before(self, before: usize, i: usize) -> usize
-        ensures { result ≡ i % length self.entry.cells.now + (length self.entry.cells.now - before % length self.entry.cells.now) }
+        ensures { let round = length self.entry.cells.now in
+            result ≡ i % round + (round - before % round) }
     {
         let len = self.cells.len();
         i % len + (len - before % len)
@@ -79,7 +89,9 @@ impl<'a> Ring<'a> {
 
     // The code of the cells around cell i, which is also cell i + L.
     pub fn span_code(self, span: Span, i: usize) -> usize
-        ensures { result ≡ code self.entry.q (window span.width (cell self.entry.cells.now) (before (length self.entry.cells.now) span.before i)) }
+        ensures { let cells = self.entry.cells.now in
+            result ≡ code self.entry.q
+            (window span.width (cell cells) (before (length cells) span.before i)) }
     {
         self.code_from(span.width, self.index_before(span.before, i))
     }
@@ -102,7 +114,9 @@ impl<'a> Ring<'a> {
         requires alphabet { (R.meaning rule.now).q ≡ self.q }
         requires cell { i < length self.cells.now }
         requires room { length self.cells.now ≤ length strip.old }
-        ensures { strip.new ≡ slice_set strip.old i (slice_index (next (R.meaning rule.now) self.entry.cells.now) i) }
+        ensures { strip.new
+            ≡ slice_set strip.old i
+            (slice_index (next (R.meaning rule.now) self.entry.cells.now) i) }
     {
         strip[i] = self.next_letter(rule, i);
     }
@@ -120,7 +134,11 @@ impl<'a> Ring<'a> {
 
     // The charge of site i, which is also site i + L, by the code of its cells.
     pub fn site_charge<C: Charge, D: Density<C>>(self, density: &D, i: usize) -> C
-        ensures { C.kind.means result ≡ slice_index_or (D.weights C.kind density.now).charges (code self.entry.q (window (D.weights C.kind density.now).k (cell self.entry.cells.now) (before (length self.entry.cells.now) booking_offset i))) C.kind.group.zero }
+        ensures { let d = D.weights C.kind density.now in
+            let cells = self.entry.cells.now in
+            let booked = window d.k (cell cells) (before (length cells) booking_offset i) in
+            C.kind.means result
+            ≡ slice_index_or d.charges (code self.entry.q booked) C.kind.group.zero }
     {
         let span = Span {
             before: BOOKING_OFFSET,
@@ -132,7 +150,8 @@ impl<'a> Ring<'a> {
     // The sum over the sites.
     fn sum_sites<C: Charge, D: Density<C>>(self, density: &D) -> C
         requires { (D.weights C.kind density.now).q ≡ self.q }
-        ensures { C.kind.means result ≡ total_of C.kind.group (D.weights C.kind density.now) self.entry.cells.now }
+        ensures { C.kind.means result
+            ≡ total_of C.kind.group (D.weights C.kind density.now) self.entry.cells.now }
     {
         let mut sum = C::zero();
         for (i, _) in self.cells.iter().enumerate() {
@@ -144,8 +163,11 @@ impl<'a> Ring<'a> {
 
 // Writes the ring after one step to the front of a strip.
 pub fn next_ring<R: Rule>(rule: &R, ring: &[u8], strip: &mut [u8]) -> Result<(), Fault>
-    ensures answer { plainly result ≡ done (ring_checked (R.meaning rule.now).q (length strip.old) ring.now) }
-    ensures strip { strip.new ≡ strip_after (next (R.meaning rule.now)) strip.old (ring_checked (R.meaning rule.now).q (length strip.old) ring.now) }
+    ensures answer { plainly result
+        ≡ done (ring_checked (R.meaning rule.now).q (length strip.old) ring.now) }
+    ensures strip { let r = R.meaning rule.now in
+        let checked = ring_checked r.q (length strip.old) ring.now in
+        strip.new ≡ strip_after (next r) strip.old checked }
 {
     Ring::checked(rule.q(), strip.len(), ring)?.write_next(rule, strip);
     Ok(())
@@ -153,7 +175,10 @@ pub fn next_ring<R: Rule>(rule: &R, ring: &[u8], strip: &mut [u8]) -> Result<(),
 
 // The total of a ring: the sum over its sites.
 pub fn total<C: Charge, D: Density<C>>(density: &D, ring: &[u8]) -> Result<C, Fault>
-    ensures { charged C.kind result ≡ and_then (ring_checked (D.weights C.kind density.now).q (length ring.now) ring.now) (λ c. Ok (total_of C.kind.group (D.weights C.kind density.now) c)) }
+    ensures { let d = D.weights C.kind density.now in
+        charged C.kind result
+        ≡ and_then (ring_checked d.q (length ring.now) ring.now)
+        (λ c. Ok (total_of C.kind.group d c)) }
 {
     Ok(Ring::checked(density.q(), ring.len(), ring)?.sum_sites(density))
 }

@@ -1,8 +1,7 @@
 // Rules by a table of the answers, one for each sum of the window's letters.
-ghost use Rattle.std.specs.Prelude.{◌≡◌, MatchResult};
+ghost use Rattle.std.specs.Prelude.{◌≡◌, OnOk, OnErr};
 ghost use Rattle.fault.specs.Answers.{plainly};
 ghost use Rattle.automaton.specs.Making.{sum_rule, by_sum, sum_count, zero_rule, rule_making, done};
-ghost use Rattle.automaton.specs.Lookups.{lookup-lawful};
 
 use crate::lookup::Table;
 use crate::making::check_rule;
@@ -37,9 +36,11 @@ fn sums(words: Words) -> usize
 }
 
 impl Rule for SumRule<'_> {
-    ghost meaning = { λ t. sum_rule t.table.words.q t.table.words.m t.table.l t.table.letters.now };
+    ghost use Rattle.automaton.specs.Meant.{sum_rule_meant, looked_up-lawful};
 
-    ghost lawful = { λ t. lookup-lawful t.table.words.q t.table.words.m t.table.l t.table.letters.now (by_sum t.table.words.q t.table.words.m) t.table.words.sizes t.table.reach t.table.below };
+    ghost meaning = { sum_rule_meant };
+
+    ghost lawful = { λ t. looked_up-lawful by_sum t.table };
 
     fn q(&self) -> usize {
         self.table.words.q
@@ -59,9 +60,11 @@ impl Rule for SumRule<'_> {
 }
 
 impl<'a> SumRule<'a> {
+    ghost use Rattle.automaton.specs.Meant.{sum_rule_meant};
+
     // The rule of two letters and a window of one cell that answers 0.
     pub fn zero() -> SumRule<'a>
-        ensures { sum_rule result.table.words.q result.table.words.m result.table.l result.table.letters.now ≡ zero_rule }
+        ensures { sum_rule_meant result ≡ zero_rule }
     {
         SumRule {
             table: Table::zero(),
@@ -71,7 +74,8 @@ impl<'a> SumRule<'a> {
     // Becomes the rule of a table of sums, or refuses and stays as it was.
     pub fn fill(&mut self, q: u64, n: u64, l: u64, letters: &'a [u8]) -> Result<(), Fault>
         ensures answer { plainly result ≡ done (rule_making q n l (sum_count q n) letters.now) }
-        ensures rule { MatchResult result (λ _. sum_rule self.new.table.words.q self.new.table.words.m self.new.table.l self.new.table.letters.now ≡ sum_rule q n l letters.now) (λ _. self.new ≡ self.old) }
+        ensures rule { OnOk result (sum_rule_meant self.new ≡ sum_rule q n l letters.now) }
+        ensures err { OnErr result (self.new ≡ self.old) }
     {
         let words = check_rule(q, n, l)?;
         self.table = Table::of(words, l, sums(words), letters)?;

@@ -1,9 +1,8 @@
 // Densities by a lent table of their charges.
-ghost use Rattle.std.specs.Prelude.{◌≡◌, ◌<◌, ◌≤◌, length, MatchResult, slice_index_or};
+ghost use Rattle.std.specs.Prelude.{◌≡◌, ◌<◌, ◌≤◌, length, OnOk, OnErr, slice_index_or};
 ghost use Rattle.fault.specs.Answers.{plainly};
 ghost use Rattle.fault.specs.declared.Stop.TheVariants.{BadEntry};
-ghost use Rattle.automaton.specs.Making.{table_density, zero_density, table_making, done, lent, taken};
-ghost use Rattle.automaton.specs.Lookups.{table_weighed};
+ghost use Rattle.automaton.specs.Making.{table_density, zero_density, table_making, done, lent_items, taken};
 
 use crate::density::Density;
 use crate::making::{Entries, check_density, take_checked};
@@ -20,9 +19,11 @@ pub struct TableDensity<'a, C> {
 }
 
 impl<C: Charge> Density<C> for TableDensity<'_, C> {
-    ghost weights = { λ K t. table_density K t.words.q t.words.m t.entries.now };
+    ghost use Rattle.automaton.specs.Meant.{table_meant, table_meant-weighed};
 
-    ghost lawful = { λ K t. table_weighed K t.words.q t.words.m t.entries.now t.words.sizes };
+    ghost weights = { table_meant };
+
+    ghost lawful = { table_meant-weighed };
 
     fn q(&self) -> usize {
         self.words.q
@@ -38,9 +39,11 @@ impl<C: Charge> Density<C> for TableDensity<'_, C> {
 }
 
 impl<'a, C: Charge> TableDensity<'a, C> {
+    ghost use Rattle.automaton.specs.Meant.{table_meant};
+
     // The density of two letters that weigh nothing.
     pub fn zero() -> TableDensity<'a, C>
-        ensures { table_density C.kind result.words.q result.words.m result.entries.now ≡ zero_density C.kind }
+        ensures { table_meant C.kind result ≡ zero_density C.kind }
     {
         TableDensity {
             words: Words::least(),
@@ -51,7 +54,9 @@ impl<'a, C: Charge> TableDensity<'a, C> {
     // Becomes the density of a table, or refuses and stays as it was.
     pub fn fill(&mut self, q: u64, k: u64, entries: &'a [C]) -> Result<(), Fault>
         ensures answer { plainly result ≡ done (table_making C.kind q k entries.now) }
-        ensures density { MatchResult result (λ _. table_density C.kind self.new.words.q self.new.words.m self.new.entries.now ≡ table_density C.kind q k entries.now) (λ _. self.new ≡ self.old) }
+        ensures density { OnOk result (table_meant C.kind self.new
+            ≡ table_density C.kind q k entries.now) }
+        ensures err { OnErr result (self.new ≡ self.old) }
     {
         let words = check_density(q, k)?;
         let entries = table_entries(words, entries)?;
@@ -62,7 +67,7 @@ impl<'a, C: Charge> TableDensity<'a, C> {
 
 // The entries of a table, one for each word, from the front of a strip.
 fn table_entries<'a, C: Charge>(words: Words, strip: &'a [C]) -> Result<&'a [C], Fault>
-    ensures { lent result ≡ taken C.kind.entry BadEntry words.count strip.now }
+    ensures { lent_items result ≡ taken C.kind.entry BadEntry words.count strip.now }
 {
     take_checked(&Entries, words.count, strip)
 }

@@ -34,7 +34,9 @@ impl Words {
     // The words of m letters below q, where these numbers have passed, unless there are too many.
     pub(crate) fn few(q: u64, m: u64) -> Result<Words, Fault>
         requires { (2 ≤ q) × (q ≤ 8) × (1 ≤ m) × (m ≤ 12) }
-        ensures { MatchResult result (λ w. (counted q m ≡ Ok w.count) × (w.q ≡ q) × (w.m ≡ m)) (λ f. counted q m ≡ Err (refusal f)) }
+        ensures { MatchResult result
+            (λ w. (counted q m ≡ Ok w.count) × (w.q ≡ q) × (w.m ≡ m))
+            (λ f. counted q m ≡ Err (refusal f)) }
     {
         let count = word_count(q, m).ok_or(Stop::TooManyWords.at(0))?;
         Ok(Words {

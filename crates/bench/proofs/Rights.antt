@@ -9,7 +9,7 @@ use Rattle.fault.proofs.Powers.{too_many}
 use Rattle.charge.specs.Groups.{Kind, minus}
 use Rattle.charge.proofs.Sums.{same_from-minus, minus_from-same}
 use Rattle.automaton.specs.Words.{Letters, Word, code, word}
-use Rattle.automaton.specs.Meanings.{Local, Weights, Lawful, Weighed, DensitySizes, weight, next, total}
+use Rattle.automaton.specs.Meanings.{Weights, Lawful, Weighed, DensitySizes, weight, total}
 use Rattle.automaton.proofs.Codes.{code_lt, word-code}
 use Rattle.automaton.proofs.Rings.{get_or-table}
 use Rattle.criterion.specs.Balance.{ring_sum, OnlyTable}
@@ -18,7 +18,8 @@ use Rattle.criterion.specs.Laws.{Shows, LabelLaw}
 use Rattle.criterion.specs.Search.{padding, J, failure}
 use Rattle.criterion.proofs.Criterion.{ring_sum-same}
 use Rattle.criterion.proofs.LabelLaw.{label_law}
-use Rattle.bench.specs.Labels.{listed, rule_label, rule_label_list, two_label, two_label_list}
+use Rattle.bench.specs.Labels.{listed, rule_label, two_label, two_label_list}
+use Rattle.bench.specs.Benches.{Bench, total_before, total_after, label_of}
 use Rattle.bench.specs.Laws.{Agree, Apart, VerdictRight, ComparisonRight}
 use Rattle.bench.specs.Sized.{listed-labelled}
 use Rattle.bench.specs.Verdicts.{fitting, bench_checked, pair_checked, judge_found, compare_found}
@@ -92,21 +93,21 @@ module _ {C : Type 0} (K : Kind C) (crossing_room ring_room : ℕ) where
       roomy true = found refl
       roomy false = refused (refused_at ShortStrip 0)
 
-  pub verdict_right : (r : Local) (d : Weights K.group.Carrier) → Lawful r → Weighed d → VerdictRight K r d (judge_found K crossing_room ring_room r d)
-  verdict_right r d lawful weighed =
-      found_in (VerdictRight K r d) (rule_label_list K.group r d) (bench_checked r d) (λ f. tt)
-      (λ e. said (failure K padding (rule_label_list K.group r d))
-      (found_right K r.q (r.n + d.k - 1) (rule_label K.group r d) (λ c. total K.group d (next r c)) (total K.group d) (2 * (r.n + d.k) - 3) (r.n + d.k - 2)
-      (label-sizes r.q (r.n + d.k - 1) lawful.sizes.0 lawful.sizes.1 (omega (arith, lawful.sizes.2, weighed.sizes.2)) (fits r.q d.q (r.n + d.k - 1) e).1)
-      (fits r.q d.q (r.n + d.k - 1) e).1 (omega arith) (omega arith) (step_gains K.group r d lawful.sizes.4)))
+  pub verdict_right : (b : Bench K) → Lawful b.rule → Weighed b.density → VerdictRight b (judge_found b crossing_room ring_room)
+  verdict_right b lawful weighed =
+      found_in (VerdictRight b) (label_of b) (bench_checked b) (λ f. tt)
+      (λ e. said (failure K padding (label_of b))
+      (found_right K b.rule.q (b.rule.n + b.density.k - 1) (rule_label K.group b.rule b.density) (total_after b) (total_before b) (2 * (b.rule.n + b.density.k) - 3) (b.rule.n + b.density.k - 2)
+      (label-sizes b.rule.q (b.rule.n + b.density.k - 1) lawful.sizes.0 lawful.sizes.1 (omega (arith, lawful.sizes.2, weighed.sizes.2)) (fits b.rule.q b.density.q (b.rule.n + b.density.k - 1) e).1)
+      (fits b.rule.q b.density.q (b.rule.n + b.density.k - 1) e).1 (omega arith) (omega arith) (step_gains K.group b.rule b.density lawful.sizes.4)))
     where
       said : (f : Option (ℕ × List ℕ)) →
-          FoundTells K r.q (r.n + d.k - 1) (rule_label K.group r d) (λ c. total K.group d (next r c)) (total K.group d) (2 * (r.n + d.k) - 3) (r.n + d.k - 2) f →
-          VerdictRight K r d (Ok f)
+          FoundTells K b.rule.q (b.rule.n + b.density.k - 1) (rule_label K.group b.rule b.density) (total_after b) (total_before b) (2 * (b.rule.n + b.density.k) - 3) (b.rule.n + b.density.k - 2) f →
+          VerdictRight b (Ok f)
       said None t = t
       said (Some f) t = t
 
-  pub comparison_right : (d e : Weights K.group.Carrier) → Weighed d → Weighed e → ComparisonRight K d e (compare_found K crossing_room ring_room d e)
+  pub comparison_right : (d e : Weights K.group.Carrier) → Weighed d → Weighed e → ComparisonRight K d e (compare_found K d e crossing_room ring_room)
   comparison_right d e weighed weighed' =
       found_in (ComparisonRight K d e) (two_label_list K.group d e) (pair_checked d e) (λ f. tt)
       (λ t. said (failure K padding (two_label_list K.group d e))

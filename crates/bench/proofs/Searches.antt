@@ -11,42 +11,44 @@ use Rattle.automaton.specs.Making.{ring_checked, done}
 use Rattle.automaton.specs.Meanings.{Local, Weights, Lawful, Weighed, next, total}
 use Rattle.automaton.proofs.Passes.{ring_ready}
 use Rattle.automaton.proofs.Steps.{length-next, next_word}
-use Rattle.criterion.specs.Answers.{with_length, examined, crossings_written, unless_refused, ring_written}
+use Rattle.criterion.specs.Answers.{with_length, examined, crossings_written, ring_written}
 use Rattle.criterion.specs.Search.{padding, crossings}
 use Rattle.criterion.specs.Strips.{FrontMeans}
 use Rattle.bench.specs.Labels.{rule_label_list, two_label, two_label_list, listed}
+use Rattle.bench.specs.Benches.{Bench}
 use Rattle.bench.specs.Laws.{VerdictRight, ComparisonRight}
 use Rattle.bench.specs.Sized.{SizesOf, sized_rule, sized_density, first_sized, second_sized}
-use Rattle.bench.specs.Verdicts.{ShownRing, bench_checked, fitting, judge_found, compare_found}
+use Rattle.bench.specs.Verdicts.{ShownRing, bench_checked, fitting, Found, Lent, Leaves, judge_found, judge_break, compare_found}
 use Rattle.bench.specs.declared.sizes.RuleSizes.{RuleSizes}
 use Rattle.bench.specs.declared.sizes.TwoSizes.{TwoSizes}
 use Rattle.bench.proofs.Rights.{fits, label-sizes, verdict_right, comparison_right}
 
 -- what a call on lent strips answers and leaves, by what is found and by the crossings
-pub record Left {C : Type 0} (K : Kind C) (found : Result (Option (ℕ × List ℕ)) Refusal) (all : List K.group.Carrier) (said : Result (Option (ℕ × ℕ)) Refusal) (old new : List C) (was now : List ℕ) : Type 0 where
+pub record Left {C : Type 0} (K : Kind C) (found : Found) (all : List K.group.Carrier) (said : Result (Option (ℕ × ℕ)) Refusal) (old new : Lent C) : Type 0 where
   pub answer : said ≡ with_length found
-  pub crossings : FrontMeans K (unless_refused found all) old new
-  pub ring : now ≡ front (ring_written found) was
+  pub left : Leaves K found all old new
 
-module _ {C : Type 0} (K : Kind C) (a b : ℕ) (L M : Weights K.group.Carrier) (t : Result (Unit {0}) Refusal) (said : Result (Option (ℕ × ℕ)) Refusal) (old new : List C) (was now : List ℕ) where
+module _ {C : Type 0} (K : Kind C) (L M : Weights K.group.Carrier) (t : Result (Unit {0}) Refusal) (said : Result (Option (ℕ × ℕ)) Refusal) (old new : Lent C) where
+  abbrev look : Weights K.group.Carrier → Found
+  look N = examined K padding N (length old.crossings) (length old.ring)
+
   -- the same label under another name, once the sizes have passed
-  pub left_passed : t ≡ Ok tt → L ≡ M → said ≡ with_length (examined K padding L a b) → FrontMeans K (crossings_written K padding L a b) old new →
-      now ≡ front (ring_written (examined K padding L a b)) was → Left K (and_then t (λ _. examined K padding M a b)) (crossings K padding M) said old new was now
+  pub left_passed : t ≡ Ok tt → L ≡ M → said ≡ with_length (look L) → FrontMeans K (crossings_written K padding L (length old.crossings) (length old.ring)) old.crossings new.crossings →
+      new.ring ≡ front (ring_written (look L)) old.ring → Left K (and_then t (λ _. look M)) (crossings K padding M) said old new
   left_passed passed same x y z =
-      subst (λ (u : Result (Unit {0}) Refusal). Left K (and_then u (λ _. examined K padding M a b)) (crossings K padding M) said old new was now) (sym passed)
-      (subst (λ (N : Weights K.group.Carrier). Left K (examined K padding N a b) (crossings K padding N) said old new was now) same (record { answer = x; crossings = y; ring = z }))
+      subst (λ (u : Result (Unit {0}) Refusal). Left K (and_then u (λ _. look M)) (crossings K padding M) said old new) (sym passed)
+      (subst (λ (N : Weights K.group.Carrier). Left K (look N) (crossings K padding N) said old new) same (record { answer = x; left = record { crossings = y; ring = z } }))
 
 -- sizes that a rule and a density have are those of a bench
-pub sizes-pass : {A : Type 0} (s : RuleSizes) (r : Local) (d : Weights A) → SizesOf s r d → bench_checked r d ≡ Ok tt
-sizes-pass s r d sized =
-    let few : r.q ^ (r.n + d.k - 1) ≤ most_words = rw (sym sized.0, sym sized.1, sym sized.3, sym s.whole) s.words.few in
-    let same : r.q ≡ d.q = sym sized.0 ∙ sized.4 in
+pub sizes-pass : {C : Type 0} {K : Kind C} (s : RuleSizes) (b : Bench K) → SizesOf s b.rule b.density → bench_checked b ≡ Ok tt
+sizes-pass s b sized =
+    let few : b.rule.q ^ (b.rule.n + b.density.k - 1) ≤ most_words = rw (sym sized.0, sym sized.1, sym sized.3, sym s.whole) s.words.few in
+    let same : b.rule.q ≡ b.density.q = sym sized.0 ∙ sized.4 in
     grind (arith, nat_tests)
 
 -- what such a bench is refused by
-pub only_short : {C Y : Type 0} (K : Kind C) (a b : ℕ) (r : Local) (d : Weights K.group.Carrier) (h : Option (ℕ × List ℕ) → Y) (f : Refusal) → bench_checked r d ≡ Ok tt →
-    Err f ≡ and_then (judge_found K a b r d) (λ x. Ok (h x)) → f ≡ refused_at ShortStrip 0
-only_short K a b r d h f passed e = grind (arith, nat_tests)
+pub only_short : {C : Type 0} {K : Kind C} (b : Bench K) (crossing_room ring_room : ℕ) (f : Refusal) → bench_checked b ≡ Ok tt → Err f ≡ judge_break b crossing_room ring_room → f ≡ refused_at ShortStrip 0
+only_short b crossing_room ring_room f passed e = grind (arith, nat_tests)
 
 -- a label that keeps the sizes that its parts have is the label of its parts
 pub rule_list-same : {C : Type 0} (K : Kind C) (s : RuleSizes) (r : Local) (d : Weights K.group.Carrier) →
@@ -115,28 +117,28 @@ passed q other m x y e = through (fitting q other m) e
     through (Ok u) e = refl
     through (Err f) e = absurd (grind (arith, e))
 
-module _ {C : Type 0} (K : Kind C) (a b : ℕ) (w n : ℕ) (was strip : List ℕ) where
-  pub judge-shown : (r : Local) (d : Weights K.group.Carrier) → Lawful r → Weighed d → Ok (Some (w, n)) ≡ with_length (judge_found K a b r d) →
-      strip ≡ front (ring_written (judge_found K a b r d)) was → Shown r.q (judge_found K a b r d) w n strip × (r.q ≡ d.q)
-  judge-shown r d lawful weighed e s =
-      let c = counted-some (judge_found K a b r d) w n e in
-      let fit = fits r.q d.q (r.n + d.k - 1) (passed r.q d.q (r.n + d.k - 1) _ _ c.1) in
-      let sizes = label-sizes r.q (r.n + d.k - 1) lawful.sizes.0 lawful.sizes.1 (omega (arith, lawful.sizes.2, weighed.sizes.2)) fit.1 in (
-        shown_in r.q w n (judge_found K a b r d) was strip e s
+module _ {C : Type 0} (K : Kind C) (w n : ℕ) (s : Lent C) (strip : List ℕ) where
+  pub judge-shown : (b : Bench K) → Lawful b.rule → Weighed b.density → Ok (Some (w, n)) ≡ with_length (judge_found b (length s.crossings) (length s.ring)) →
+      strip ≡ front (ring_written (judge_found b (length s.crossings) (length s.ring))) s.ring → Shown b.rule.q (judge_found b (length s.crossings) (length s.ring)) w n strip × (b.rule.q ≡ b.density.q)
+  judge-shown b lawful weighed e is =
+      let c = counted-some (judge_found b (length s.crossings) (length s.ring)) w n e in
+      let fit = fits b.rule.q b.density.q (b.rule.n + b.density.k - 1) (passed b.rule.q b.density.q (b.rule.n + b.density.k - 1) _ _ c.1) in
+      let sizes = label-sizes b.rule.q (b.rule.n + b.density.k - 1) lawful.sizes.0 lawful.sizes.1 (omega (arith, lawful.sizes.2, weighed.sizes.2)) fit.1 in (
+        shown_in b.rule.q w n (judge_found b (length s.crossings) (length s.ring)) s.ring strip e is
             (λ ring is.
-            let apart = subst (VerdictRight K r d) is (verdict_right K a b r d lawful weighed) in
+            let apart = subst (VerdictRight b) is (verdict_right K (length s.crossings) (length s.ring) b lawful weighed) in
             (apart.0, omega (arith, apart.1, sizes.3), apart.2)),
         fit.0,
       )
 
-  pub compare-shown : (d e : Weights K.group.Carrier) → Weighed d → Weighed e → Ok (Some (w, n)) ≡ with_length (compare_found K a b d e) →
-      strip ≡ front (ring_written (compare_found K a b d e)) was → Shown d.q (compare_found K a b d e) w n strip × (d.q ≡ e.q)
-  compare-shown d e weighed weighed' h s =
-      let c = counted-some (compare_found K a b d e) w n h in
+  pub compare-shown : (d e : Weights K.group.Carrier) → Weighed d → Weighed e → Ok (Some (w, n)) ≡ with_length (compare_found K d e (length s.crossings) (length s.ring)) →
+      strip ≡ front (ring_written (compare_found K d e (length s.crossings) (length s.ring))) s.ring → Shown d.q (compare_found K d e (length s.crossings) (length s.ring)) w n strip × (d.q ≡ e.q)
+  compare-shown d e weighed weighed' h is =
+      let c = counted-some (compare_found K d e (length s.crossings) (length s.ring)) w n h in
       let fit = fits d.q e.q (max d.k e.k) (passed d.q e.q (max d.k e.k) _ _ c.1) in (
-        shown_in d.q w n (compare_found K a b d e) was strip h s
+        shown_in d.q w n (compare_found K d e (length s.crossings) (length s.ring)) s.ring strip h is
             (λ ring is.
-            let apart = subst (ComparisonRight K d e) is (comparison_right K a b d e weighed weighed') in
+            let apart = subst (ComparisonRight K d e) is (comparison_right K (length s.crossings) (length s.ring) d e weighed weighed') in
             (apart.0, omega (arith, apart.1, weighed.sizes.3, weighed'.sizes.3), apart.2)),
         fit.0,
       )

@@ -11,7 +11,8 @@ use Rattle.automaton.specs.Words.{Letters}
 use Rattle.automaton.specs.Meanings.{Local, Weights, next, total}
 use Rattle.criterion.specs.Balance.{OnlyTable}
 use Rattle.criterion.specs.Search.{padding, J}
-use Rattle.bench.specs.Labels.{rule_label, two_label, rule_label_list, two_label_list}
+use Rattle.bench.specs.Labels.{rule_label, two_label, two_label_list}
+use Rattle.bench.specs.Benches.{Bench, total_before, total_after, label_of}
 
 -- A and B agree on the rings of every length, of letters below q
 abbrev pub Agree : {X : Type 0} → ℕ → (List ℕ → X) → (List ℕ → X) → Type 0
@@ -31,12 +32,12 @@ Apart q most A B c = (1 ≤ length c) × (length c ≤ most) × Letters q c × (
 
 -- What is found, if nothing is refused: under "holds" no ring changes its total, and the crossings are the only table
 -- that balances; otherwise the ring shown changes its total, and has at most 2 (n + k) - 3 cells.
-module _ {C : Type 0} (K : Kind C) (r : Local) (d : Weights K.group.Carrier) where
+module _ {C : Type 0} {K : Kind C} (b : Bench K) where
   abbrev pub VerdictRight : Result (Option (ℕ × List ℕ)) Refusal → Type 0
   VerdictRight (Ok None) =
-      KeepsTotal K.group r d
-      × OnlyTable K.group (rule_label K.group r d) padding r.q (r.n + d.k - 2) (J K padding (rule_label_list K.group r d))
-  VerdictRight (Ok (Some f)) = Apart r.q (2 * (r.n + d.k) - 3) (λ c. total K.group d (next r c)) (total K.group d) f.1
+      KeepsTotal K.group b.rule b.density
+      × OnlyTable K.group (rule_label K.group b.rule b.density) padding b.rule.q (b.rule.n + b.density.k - 2) (J K padding (label_of b))
+  VerdictRight (Ok (Some f)) = Apart b.rule.q (2 * (b.rule.n + b.density.k) - 3) (total_after b) (total_before b) f.1
   VerdictRight (Err f) = Unit {0}
 
 -- The same for two densities: if they agree, no ring has two totals; otherwise the ring shown has.

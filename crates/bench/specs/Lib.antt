@@ -1,5 +1,9 @@
 pub mod Labels
+pub mod Benches
 pub mod Laws
 pub mod Verdicts
 pub mod Sized
 pub mod Answers
+pub mod Promises
+pub mod Labelling
+pub mod States

@@ -28,6 +28,9 @@ second_sized s d = record { q = s.words.q; k = s.second; charges = d.charges }
 abbrev pub SizesOf : {A : Type 0} → RuleSizes → Local → Weights A → Type 0
 SizesOf s r d = (s.words.q ≡ r.q) × (s.n ≡ r.n) × (s.l ≡ r.l) × (s.k ≡ d.k) × (s.words.q ≡ d.q)
 
+abbrev pub TwoSizesOf : {A : Type 0} → TwoSizes → Weights A → Weights A → Type 0
+TwoSizesOf s d e = (s.words.q ≡ d.q) × (s.first ≡ d.k) × (s.second ≡ e.k) × (s.words.q ≡ e.q)
+
 pub listed-labelled : {A : Type 0} (q m : ℕ) (d : List ℕ → A) → DensitySizes q m → q ^ m ≤ most_words → Labelled (listed q m d)
 listed-labelled q m d sizes few = record { sizes = sizes; few = few; each = length-table (q ^ m) (λ c. d (word q m c)) }
 

@@ -1,17 +1,19 @@
 -- What judge and compare answer. Assumes nothing.
-use Rattle.std.specs.Prelude.{ℕ, ◌+◌, ◌-◌, ◌≤◌, max, List, [], ◌∷◌, length, Some, None, Ok, Option, Result, ◌==◌}
+use Rattle.std.specs.Prelude.{◌≡◌, ℕ, ◌+◌, ◌-◌, ◌≤◌, max, List, [], ◌∷◌, length, Some, None, Ok, Option, Result, ◌==◌}
 use Rattle.std.specs.Option.{option_map}
 use Rattle.fault.specs.declared.Stop.TheVariants.{AlphabetsDiffer, TooManyWords}
-use Rattle.fault.specs.Answers.{and_then}
+use Rattle.fault.specs.Answers.{and_then, front}
 use Rattle.fault.specs.Checks.{tested}
 use Rattle.fault.specs.Limits.{few_words}
 use Rattle.fault.specs.Refusals.{Refusal}
 use Rattle.charge.specs.Groups.{Kind}
 use Rattle.automaton.specs.Words.{Letters}
-use Rattle.automaton.specs.Meanings.{Local, Weights, next, total}
-use Rattle.criterion.specs.Answers.{examined, unless_refused}
+use Rattle.automaton.specs.Meanings.{Weights, total}
+use Rattle.criterion.specs.Answers.{examined, unless_refused, ring_written}
+use Rattle.criterion.specs.Strips.{FrontMeans}
 use Rattle.criterion.specs.Search.{padding, most_shown, crossings}
-use Rattle.bench.specs.Labels.{rule_label_list, two_label_list}
+use Rattle.bench.specs.Labels.{two_label_list}
+use Rattle.bench.specs.Benches.{Bench, total_before, total_after, label_of, crossings_of}
 
 -- A break: the failing word's code, the length of the ring shown, and two totals of that ring, before and after one
 -- step, or under the first density and the second.
@@ -53,30 +55,59 @@ abbrev pub fitting : ℕ → ℕ → ℕ → Result (Unit {0}) Refusal
 fitting q other m = tested (((q == other), AlphabetsDiffer) ∷ (few_words q m, TooManyWords) ∷ [])
 
 -- whether a rule and a density make a bench, and whether two densities can be compared
-abbrev pub bench_checked : {A : Type 0} → Local → Weights A → Result (Unit {0}) Refusal
-bench_checked r d = fitting r.q d.q (r.n + d.k - 1)
+abbrev pub bench_checked : {C : Type 0} {K : Kind C} → Bench K → Result (Unit {0}) Refusal
+bench_checked b = fitting b.rule.q b.density.q (b.rule.n + b.density.k - 1)
 
 abbrev pub pair_checked : {A : Type 0} → Weights A → Weights A → Result (Unit {0}) Refusal
 pair_checked d e = fitting d.q e.q (max d.k e.k)
 
--- what is found for strips of these lengths: the failing word with the ring that shows it, if a word fails
-module _ {C : Type 0} (K : Kind C) (crossing_room ring_room : ℕ) where
-  abbrev pub judge_found : Local → Weights K.group.Carrier → Result (Option (ℕ × List ℕ)) Refusal
-  judge_found r d = and_then (bench_checked r d) (λ _. examined K padding (rule_label_list K.group r d) crossing_room ring_room)
+-- what is found with strips of some room: the failing word with the ring that shows it, if a word fails
+abbrev pub Found : Type 0
+Found = Result (Option (ℕ × List ℕ)) Refusal
 
-  abbrev pub compare_found : Weights K.group.Carrier → Weights K.group.Carrier → Result (Option (ℕ × List ℕ)) Refusal
-  compare_found d e = and_then (pair_checked d e) (λ _. examined K padding (two_label_list K.group d e) crossing_room ring_room)
+-- what judging finds and answers, by the room of the strips for crossings and for a ring
+module _ {C : Type 0} {K : Kind C} (b : Bench K) (crossing_room ring_room : ℕ) where
+  abbrev pub judge_found : Found
+  judge_found = and_then (bench_checked b) (λ _. examined K padding (label_of b) crossing_room ring_room)
 
   -- the crossings that are written: none where the call is refused
-  abbrev pub judge_crossings : Local → Weights K.group.Carrier → List K.group.Carrier
-  judge_crossings r d = unless_refused (judge_found r d) (crossings K padding (rule_label_list K.group r d))
+  abbrev pub judge_crossings : List K.group.Carrier
+  judge_crossings = unless_refused judge_found (crossings_of b)
 
-  abbrev pub compare_crossings : Weights K.group.Carrier → Weights K.group.Carrier → List K.group.Carrier
-  compare_crossings d e = unless_refused (compare_found d e) (crossings K padding (two_label_list K.group d e))
+  -- the answer, by the break that there is, if any
+  abbrev pub judge_break : Result (Option (Broken K.group.Carrier)) Refusal
+  judge_break = and_then judge_found (λ f. Ok (option_map (broken (total_before b) (total_after b)) f))
 
-  -- the answers
-  abbrev pub judging : Local → Weights K.group.Carrier → Result (Judgement K.group.Carrier) Refusal
-  judging r d = and_then (judge_found r d) (λ f. Ok (verdict_of (option_map (broken (total K.group d) (λ c. total K.group d (next r c))) f)))
+  abbrev pub judging : Result (Judgement K.group.Carrier) Refusal
+  judging = and_then judge_found (λ f. Ok (verdict_of (option_map (broken (total_before b) (total_after b)) f)))
 
-  abbrev pub comparing : Weights K.group.Carrier → Weights K.group.Carrier → Result (Comparison K.group.Carrier) Refusal
-  comparing d e = and_then (compare_found d e) (λ f. Ok (comparison_of (option_map (broken (total K.group d) (total K.group e)) f)))
+-- what comparing finds and answers, likewise
+module _ {C : Type 0} (K : Kind C) (d e : Weights K.group.Carrier) (crossing_room ring_room : ℕ) where
+  abbrev pub compare_found : Found
+  compare_found = and_then (pair_checked d e) (λ _. examined K padding (two_label_list K.group d e) crossing_room ring_room)
+
+  abbrev pub compare_crossings : List K.group.Carrier
+  compare_crossings = unless_refused compare_found (crossings K padding (two_label_list K.group d e))
+
+  abbrev pub comparing : Result (Comparison K.group.Carrier) Refusal
+  comparing = and_then compare_found (λ f. Ok (comparison_of (option_map (broken (total K.group d) (total K.group e)) f)))
+
+-- the two strips that a call is lent, for crossings and for a ring
+pub record Lent (C : Type 0) : Type 0 where
+  pub crossings : List C
+  pub ring : List ℕ
+
+abbrev pub lent : {C : Type 0} → List C → List ℕ → Lent C
+lent crossings ring = record { crossings = crossings; ring = ring }
+
+-- what is left on the strips: the crossings and the ring that are written, each at the front of its strip, and none where
+-- the call is refused
+pub record Leaves {C : Type 0} (K : Kind C) (found : Found) (all : List K.group.Carrier) (old new : Lent C) : Type 0 where
+  pub crossings : FrontMeans K (unless_refused found all) old.crossings new.crossings
+  pub ring : new.ring ≡ front (ring_written found) old.ring
+
+abbrev pub JudgeLeaves : {C : Type 0} {K : Kind C} → Bench K → Lent C → Lent C → Type 0
+JudgeLeaves {C} {K} b old new = Leaves K (judge_found b (length old.crossings) (length old.ring)) (crossings_of b) old new
+
+abbrev pub CompareLeaves : {C : Type 0} (K : Kind C) (d e : Weights K.group.Carrier) → Lent C → Lent C → Type 0
+CompareLeaves K d e old new = Leaves K (compare_found K d e (length old.crossings) (length old.ring)) (crossings K padding (two_label_list K.group d e)) old new

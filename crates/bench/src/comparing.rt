@@ -1,11 +1,9 @@
 // Two densities, compared by their totals.
 ghost use Rattle.std.specs.Prelude.{◌≡◌, length};
-ghost use Rattle.fault.specs.Answers.{front};
-ghost use Rattle.criterion.specs.Answers.{seen, with_length, ring_written};
-ghost use Rattle.criterion.specs.Strips.{FrontMeans};
+ghost use Rattle.criterion.specs.Answers.{seen, with_length};
 ghost use Rattle.bench.specs.Answers.{compare_said};
-ghost use Rattle.bench.specs.Laws.{ComparisonRight, ComparisonWhole};
-ghost use Rattle.bench.specs.Verdicts.{compare_found, compare_crossings, comparing};
+ghost use Rattle.bench.specs.Promises.{Compares};
+ghost use Rattle.bench.specs.Verdicts.{lent, compare_found, comparing, CompareLeaves};
 
 use crate::sizes::TwoSizes;
 use crate::state::Break;
@@ -22,9 +20,12 @@ fn compare_words<C: Charge, D: Density<C>, E: Density<C>>(
     crossings: &mut [C],
     ring: &mut [u8],
 ) -> Result<Option<Failure>, Fault>
-    ensures answer { seen result ≡ with_length (compare_found C.kind (length crossings.old) (length ring.old) (D.weights C.kind first.now) (E.weights C.kind second.now)) }
-    ensures crossings { FrontMeans C.kind (compare_crossings C.kind (length crossings.old) (length ring.old) (D.weights C.kind first.now) (E.weights C.kind second.now)) crossings.old crossings.new }
-    ensures ring { ring.new ≡ front (ring_written (compare_found C.kind (length crossings.old) (length ring.old) (D.weights C.kind first.now) (E.weights C.kind second.now))) ring.old }
+    ensures answer { let d = D.weights C.kind first.now in
+        let e = E.weights C.kind second.now in
+        let found = compare_found C.kind d e (length crossings.old) (length ring.old) in
+        seen result ≡ with_length found }
+    ensures left { CompareLeaves C.kind (D.weights C.kind first.now) (E.weights C.kind second.now)
+        (lent crossings.old ring.old) (lent crossings.new ring.new) }
 {
     let sizes = TwoSizes::of(first, second)?;
     let label = TwoLabel {
@@ -42,9 +43,12 @@ fn compare_on<C: Charge, D: Density<C>, E: Density<C>>(
     crossings: &mut [C],
     ring: &mut [u8],
 ) -> Result<Option<Break<C>>, Fault>
-    ensures answer { compare_said C.kind result ≡ comparing C.kind (length crossings.old) (length ring.old) (D.weights C.kind first.now) (E.weights C.kind second.now) }
-    ensures crossings { FrontMeans C.kind (compare_crossings C.kind (length crossings.old) (length ring.old) (D.weights C.kind first.now) (E.weights C.kind second.now)) crossings.old crossings.new }
-    ensures ring { ring.new ≡ front (ring_written (compare_found C.kind (length crossings.old) (length ring.old) (D.weights C.kind first.now) (E.weights C.kind second.now))) ring.old }
+    ensures answer { let d = D.weights C.kind first.now in
+        let e = E.weights C.kind second.now in
+        compare_said C.kind result
+        ≡ comparing C.kind d e (length crossings.old) (length ring.old) }
+    ensures left { CompareLeaves C.kind (D.weights C.kind first.now) (E.weights C.kind second.now)
+        (lent crossings.old ring.old) (lent crossings.new ring.new) }
 {
     let Some(Failure { word, len }) = compare_words(first, second, crossings, ring)? else {
         return Ok(None);
@@ -67,11 +71,8 @@ pub fn compare<C: Charge, D: Density<C>, E: Density<C>>(
     crossings: &mut [C],
     ring: &mut [u8],
 ) -> Result<Option<Break<C>>, Fault>
-    ensures answer { compare_said C.kind result ≡ comparing C.kind (length crossings.old) (length ring.old) (D.weights C.kind first.now) (E.weights C.kind second.now) }
-    ensures crossings { FrontMeans C.kind (compare_crossings C.kind (length crossings.old) (length ring.old) (D.weights C.kind first.now) (E.weights C.kind second.now)) crossings.old crossings.new }
-    ensures ring { ring.new ≡ front (ring_written (compare_found C.kind (length crossings.old) (length ring.old) (D.weights C.kind first.now) (E.weights C.kind second.now))) ring.old }
-    ensures right { ComparisonRight C.kind (D.weights C.kind first.now) (E.weights C.kind second.now) (compare_found C.kind (length crossings.old) (length ring.old) (D.weights C.kind first.now) (E.weights C.kind second.now)) }
-    ensures whole { ComparisonWhole }
+    ensures { Compares C.kind (D.weights C.kind first.now) (E.weights C.kind second.now)
+        (lent crossings.old ring.old) result (lent crossings.new ring.new) }
 {
     compare_on(first, second, crossings, ring)
 }

@@ -1,8 +1,5 @@
 // What a bench that holds is asked by a player.
-ghost use Rattle.std.specs.Prelude.{◌≡◌, ◌+◌, ◌-◌, ◌≤◌, length, slice_index_or};
-ghost use Rattle.automaton.specs.Words.{code, window, cell, before};
-ghost use Rattle.criterion.specs.Search.{padding, crossings as crossings_of};
-ghost use Rattle.bench.specs.Labels.{rule_label_list};
+ghost use Rattle.std.specs.Prelude.{◌≡◌, ◌+◌, ◌-◌, ◌≤◌, length};
 ghost use Rattle.bench.specs.Sized.{KnowsNext};
 
 use crate::next_words::NextWords;
@@ -13,21 +10,24 @@ use charge::Charge;
 use criterion::crossing;
 
 impl<C: Charge, R: Rule, D: Density<C>> Holding<C, R, D> {
+    ghost use Rattle.bench.specs.States.{rule_of, density_of, holding_of};
+
     pub fn rule(&self) -> &R
-        ensures { result.now ≡ self.now.parts.rule }
+        ensures { result.now ≡ rule_of self.now }
     {
         &self.parts.rule
     }
 
     pub fn density(&self) -> &D
-        ensures { result.now ≡ self.now.parts.density }
+        ensures { result.now ≡ density_of self.now }
     {
         &self.parts.density
     }
 
     // The m - 1 cells that a crossing is taken from.
     fn crossing_span(&self) -> Span
-        ensures { (result.before ≡ self.now.sizes.l) × (result.width ≡ self.now.sizes.n + self.now.sizes.k - 2) }
+        ensures { (result.before ≡ self.now.sizes.l)
+            × (result.width ≡ self.now.sizes.n + self.now.sizes.k - 2) }
     {
         Span {
             before: self.sizes.l,
@@ -42,7 +42,7 @@ impl<C: Charge, R: Rule, D: Density<C>> Holding<C, R, D> {
         sites: usize,
         room: &'a mut NextWords,
     ) -> SiteCrossings<'a, C, R, D>
-        ensures { result.bench.now ≡ self.now }
+        ensures { holding_of result ≡ self.now }
     {
         let Words { m, count, .. } = self.sizes.words;
         if sites < count / m {
@@ -64,14 +64,19 @@ pub struct SiteCrossings<'a, C: Charge, R: Rule, D: Density<C>> {
     bench: &'a Holding<C, R, D>,
     nexts: &'a [u16],
     ghost words: { length nexts.now ≤ bench.now.sizes.words.count },
-    ghost known: { KnowsNext bench.now.sizes (R.meaning bench.now.parts.rule) (length nexts.now) nexts.now },
+    ghost known: { KnowsNext bench.now.sizes (R.meaning bench.now.parts.rule)
+        (length nexts.now) nexts.now },
 }
 
 impl<C: Charge, R: Rule, D: Density<C>> SiteCrossings<'_, C, R, D> {
+    ghost use Rattle.bench.specs.Benches.{crossing_into};
+    ghost use Rattle.bench.specs.States.{sites_bench};
+
     // What crosses into site i of a ring in a step: the crossing of the m - 1 cells from l cells before cell i on, by
     // their code.
     pub fn at(&self, ring: Ring<'_>, i: usize) -> C
-        ensures { C.kind.means result ≡ slice_index_or (crossings_of C.kind padding (rule_label_list C.kind.group (R.meaning self.now.bench.now.parts.rule) (D.weights C.kind self.now.bench.now.parts.density))) (code ring.entry.q (window ((R.meaning self.now.bench.now.parts.rule).n + (D.weights C.kind self.now.bench.now.parts.density).k - 2) (cell ring.entry.cells.now) (before (length ring.entry.cells.now) (R.meaning self.now.bench.now.parts.rule).l i))) C.kind.group.zero }
+        ensures { C.kind.means result
+            ≡ crossing_into (sites_bench self.now) ring.entry.q ring.entry.cells.now i }
     {
         let label = RuleLabel {
             parts: &self.bench.parts,

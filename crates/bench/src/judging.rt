@@ -1,17 +1,12 @@
 // The bench, and its one verdict.
-ghost use Rattle.std.specs.Prelude.{◌≡◌, length, Ok, MatchResult, IfErr};
-ghost use Rattle.fault.specs.declared.Stop.TheVariants.{ShortStrip};
-ghost use Rattle.fault.specs.Refusals.{refusal, refused_at};
-ghost use Rattle.fault.specs.Answers.{and_then, front};
-ghost use Rattle.std.specs.Option.{option_map};
+ghost use Rattle.std.specs.Prelude.{◌≡◌, length, Ok};
 ghost use Rattle.automaton.specs.Making.{charged};
-ghost use Rattle.automaton.specs.Meanings.{next};
-ghost use Rattle.automaton.specs.Meanings.{total as total_of};
-ghost use Rattle.criterion.specs.Answers.{seen, with_length, ring_written};
-ghost use Rattle.criterion.specs.Strips.{FrontMeans};
-ghost use Rattle.bench.specs.Answers.{breaks_mean, verdict_means, verdict_parts, judge_said, draft_said, found_said, broken_said};
-ghost use Rattle.bench.specs.Laws.{VerdictRight, VerdictWhole};
-ghost use Rattle.bench.specs.Verdicts.{ShownRing, bench_checked, judge_found, judge_crossings, judging, broken, verdict_of};
+ghost use Rattle.criterion.specs.Answers.{seen, with_length};
+ghost use Rattle.bench.specs.Answers.{breaks_mean, verdict_means, verdict_parts, draft_said, found_said, broken_said};
+ghost use Rattle.bench.specs.Benches.{bench_of, total_before, total_after};
+ghost use Rattle.bench.specs.Promises.{Judges};
+ghost use Rattle.bench.specs.States.{draft_bench, HandsIn, HandsOn};
+ghost use Rattle.bench.specs.Verdicts.{ShownRing, bench_checked, broken, lent, judge_found, judge_break, JudgeLeaves, verdict_of};
 
 use crate::next_words::NextWords;
 use crate::rule_label::RuleLabel;
@@ -44,8 +39,9 @@ fn verdict_of<C: Charge, R: Rule, D: Density<C>>(
 impl<C: Charge, R: Rule, D: Density<C>> Draft<C, R, D> {
     // A bench of a rule and a density over one alphabet, whose words are few.
     pub fn new(rule: R, density: D) -> Result<Draft<C, R, D>, Refused<Parts<R, D>>>
-        ensures answer { draft_said result ≡ bench_checked (R.meaning rule) (D.weights C.kind density) }
-        ensures parts { MatchResult result (λ draft. draft.parts ≡ record { rule = rule; density = density }) (λ refused. refused.state ≡ record { rule = rule; density = density }) }
+        ensures answer { draft_said result
+            ≡ bench_checked (bench_of C.kind (R.meaning rule) (D.weights C.kind density)) }
+        ensures handed { HandsIn rule density result }
     {
         let parts = Parts { rule, density };
         match RuleSizes::of(&parts) {
@@ -63,8 +59,8 @@ impl<C: Charge, R: Rule, D: Density<C>> Draft<C, R, D> {
 
     // The total after one step of a ring that may be shown.
     fn later_total(&self, ring: &[u8]) -> Result<C, Fault>
-        requires { ShownRing (R.meaning self.now.parts.rule).q ring.now }
-        ensures { charged C.kind result ≡ Ok (total_of C.kind.group (D.weights C.kind self.now.parts.density) (next (R.meaning self.now.parts.rule) ring.now)) }
+        requires { ShownRing (draft_bench self.now).rule.q ring.now }
+        ensures { charged C.kind result ≡ Ok (total_after (draft_bench self.now) ring.now) }
     {
         let mut strip = [0u8; MOST_SHOWN];
         next_ring(&self.parts.rule, ring, &mut strip)?;
@@ -73,8 +69,10 @@ impl<C: Charge, R: Rule, D: Density<C>> Draft<C, R, D> {
 
     // The break by a failing word and the ring that shows it, with the totals before and after one step.
     fn break_on(&self, word: usize, ring: &[u8]) -> Result<Break<C>, Fault>
-        requires { ShownRing (R.meaning self.now.parts.rule).q ring.now }
-        ensures { broken_said C.kind result ≡ Ok (broken (total_of C.kind.group (D.weights C.kind self.now.parts.density)) (λ c. total_of C.kind.group (D.weights C.kind self.now.parts.density) (next (R.meaning self.now.parts.rule) c)) (word, ring.now)) }
+        requires { ShownRing (draft_bench self.now).rule.q ring.now }
+        ensures { let b = draft_bench self.now in
+            broken_said C.kind result
+            ≡ Ok (broken (total_before b) (total_after b) (word, ring.now)) }
     {
         Ok(Break {
             word,
@@ -88,9 +86,10 @@ impl<C: Charge, R: Rule, D: Density<C>> Draft<C, R, D> {
     // word's label is asked for more than once. The two strips make no struct: clauses would reach each of them through two
     // references.
     fn judge_words(&self, crossings: &mut [C], ring: &mut [u8]) -> Result<Option<Failure>, Fault>
-        ensures answer { seen result ≡ with_length (judge_found C.kind (length crossings.old) (length ring.old) (R.meaning self.now.parts.rule) (D.weights C.kind self.now.parts.density)) }
-        ensures crossings { FrontMeans C.kind (judge_crossings C.kind (length crossings.old) (length ring.old) (R.meaning self.now.parts.rule) (D.weights C.kind self.now.parts.density)) crossings.old crossings.new }
-        ensures ring { ring.new ≡ front (ring_written (judge_found C.kind (length crossings.old) (length ring.old) (R.meaning self.now.parts.rule) (D.weights C.kind self.now.parts.density))) ring.old }
+        ensures answer { let b = draft_bench self.now in
+            seen result ≡ with_length (judge_found b (length crossings.old) (length ring.old)) }
+        ensures left { JudgeLeaves (draft_bench self.now)
+            (lent crossings.old ring.old) (lent crossings.new ring.new) }
     {
         let mut room = NextWords::new();
         let label = RuleLabel {
@@ -103,9 +102,10 @@ impl<C: Charge, R: Rule, D: Density<C>> Draft<C, R, D> {
 
     // Judges the rule under the density on lent strips.
     fn judge_on(&self, crossings: &mut [C], ring: &mut [u8]) -> Result<Option<Break<C>>, Fault>
-        ensures answer { found_said C.kind result ≡ and_then (judge_found C.kind (length crossings.old) (length ring.old) (R.meaning self.now.parts.rule) (D.weights C.kind self.now.parts.density)) (λ f. Ok (option_map (broken (total_of C.kind.group (D.weights C.kind self.now.parts.density)) (λ c. total_of C.kind.group (D.weights C.kind self.now.parts.density) (next (R.meaning self.now.parts.rule) c))) f)) }
-        ensures crossings { FrontMeans C.kind (judge_crossings C.kind (length crossings.old) (length ring.old) (R.meaning self.now.parts.rule) (D.weights C.kind self.now.parts.density)) crossings.old crossings.new }
-        ensures ring { ring.new ≡ front (ring_written (judge_found C.kind (length crossings.old) (length ring.old) (R.meaning self.now.parts.rule) (D.weights C.kind self.now.parts.density))) ring.old }
+        ensures answer { found_said C.kind result
+            ≡ judge_break (draft_bench self.now) (length crossings.old) (length ring.old) }
+        ensures left { JudgeLeaves (draft_bench self.now)
+            (lent crossings.old ring.old) (lent crossings.new ring.new) }
     {
         let Some(Failure { word, len }) = self.judge_words(crossings, ring)? else {
             return Ok(None);
@@ -120,13 +120,9 @@ impl<C: Charge, R: Rule, D: Density<C>> Draft<C, R, D> {
         crossings: &mut [C],
         ring: &mut [u8],
     ) -> Result<Judged<C, R, D>, Refused<Draft<C, R, D>>>
-        ensures answer { judge_said C.kind result ≡ judging C.kind (length crossings.old) (length ring.old) (R.meaning self.parts.rule) (D.weights C.kind self.parts.density) }
-        ensures refused { IfErr result (λ e. refusal e.fault ≡ refused_at ShortStrip 0) }
-        ensures parts { MatchResult result (λ verdict. verdict_parts (λ h. h.parts) (λ b. b.parts) verdict ≡ self.parts) (λ e. e.state ≡ self) }
-        ensures crossings { FrontMeans C.kind (judge_crossings C.kind (length crossings.old) (length ring.old) (R.meaning self.parts.rule) (D.weights C.kind self.parts.density)) crossings.old crossings.new }
-        ensures ring { ring.new ≡ front (ring_written (judge_found C.kind (length crossings.old) (length ring.old) (R.meaning self.parts.rule) (D.weights C.kind self.parts.density))) ring.old }
-        ensures right { VerdictRight C.kind (R.meaning self.parts.rule) (D.weights C.kind self.parts.density) (judge_found C.kind (length crossings.old) (length ring.old) (R.meaning self.parts.rule) (D.weights C.kind self.parts.density)) }
-        ensures whole { VerdictWhole }
+        ensures judged { Judges (draft_bench self)
+            (lent crossings.old ring.old) result (lent crossings.new ring.new) }
+        ensures handed { HandsOn self result }
     {
         match self.judge_on(crossings, ring) {
             Ok(found) => Ok(verdict_of(self, found)),

@@ -27,7 +27,8 @@ impl NextWords {
 impl<R: Rule, D> Parts<R, D> {
     // The answer for the last n letters of a word.
     fn last_letter(&self, sizes: RuleSizes, code: usize) -> u8
-        ensures { result ≡ slice_index (R.meaning self.now.rule).answers (code % sizes.words.q ^ sizes.n) }
+        ensures { result
+            ≡ slice_index (R.meaning self.now.rule).answers (code % sizes.words.q ^ sizes.n) }
     {
         self.rule.answer(code % sizes.windows)
     }
@@ -53,10 +54,13 @@ impl<R: Rule, D> Parts<R, D> {
     // the last next letters of `head`.
     fn extend(&self, sizes: RuleSizes, head: usize, strip: &mut [u16])
         requires rule { sized_rule sizes (R.meaning self.now.rule) ≡ R.meaning self.now.rule }
-        requires word { (length strip.old ≡ sizes.words.count) × (head * sizes.words.q < length strip.old) }
-        requires known { KnowsNext sizes (R.meaning self.now.rule) (max 1 (head * sizes.words.q)) strip.old }
+        requires word { (length strip.old
+            ≡ sizes.words.count) × (head * sizes.words.q < length strip.old) }
+        requires known { KnowsNext sizes (R.meaning self.now.rule) (max 1
+            (head * sizes.words.q)) strip.old }
         ensures len { length strip.new ≡ length strip.old }
-        ensures known { KnowsNext sizes (R.meaning self.now.rule) ((head + 1) * sizes.words.q) strip.new }
+        ensures known { KnowsNext sizes (R.meaning self.now.rule)
+            ((head + 1) * sizes.words.q) strip.new }
     {
         let q = sizes.words.q;
         let first = head * q;

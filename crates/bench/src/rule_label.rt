@@ -1,7 +1,6 @@
 // The label of a rule under a density.
 ghost use Rattle.std.specs.Prelude.{◌≡◌, ◌+◌, ◌-◌, ◌/◌, ◌%◌, ◌^◌, ◌<◌, ◌≤◌, length, slice_index, MatchOption};
-ghost use Rattle.bench.specs.Labels.{rule_label, rule_label_list};
-ghost use Rattle.bench.specs.Sized.{sized_rule, sized_density, words-labelled, next_word, KnowsNext};
+ghost use Rattle.bench.specs.Sized.{next_word, KnowsNext};
 
 use crate::sizes::RuleSizes;
 use crate::state::Parts;
@@ -21,9 +20,11 @@ pub struct RuleLabel<'a, R: Rule, D> {
 }
 
 impl<C: Charge, R: Rule, D: Density<C>> Label<C> for RuleLabel<'_, R, D> {
-    ghost labels = { λ K t. rule_label_list K.group (sized_rule t.sizes (R.meaning t.parts.now.rule)) (sized_density t.sizes (D.weights K t.parts.now.density)) };
+    ghost use Rattle.bench.specs.Labelling.{rule_label_meant, rule_label-labelled};
 
-    ghost lawful = { λ K t. words-labelled t.sizes.words (t.sizes.n + t.sizes.k - 1) t.sizes.whole (rule_label K.group (sized_rule t.sizes (R.meaning t.parts.now.rule)) (sized_density t.sizes (D.weights K t.parts.now.density))) };
+    ghost labels = { λ K t. rule_label_meant D.Density K t };
+
+    ghost lawful = { λ K t. rule_label-labelled D.Density K t };
 
     fn q(&self) -> usize {
         self.sizes.words.q
@@ -46,7 +47,10 @@ impl<C: Charge, R: Rule, D: Density<C>> Label<C> for RuleLabel<'_, R, D> {
 impl<R: Rule, D> RuleLabel<'_, R, D> {
     // The code of the next letters of the word of a code, if there is one. One test is enough where they are known.
     fn next_word(&self, code: usize) -> Option<usize>
-        ensures { MatchOption result (self.now.sizes.words.count ≤ code) (λ next. (code < self.now.sizes.words.count) × (next ≡ next_word self.now.sizes (R.meaning self.now.parts.now.rule) code)) }
+        ensures { let sizes = self.now.sizes in
+            let next_of = next_word sizes (R.meaning self.now.parts.now.rule) in
+            MatchOption result (sizes.words.count ≤ code)
+            (λ next. (code < sizes.words.count) × (next ≡ next_of code)) }
     {
         match self.nexts.get(code) {
             Some(next) => Some(*next as usize),

@@ -40,7 +40,10 @@ pub struct TwoSizes {
     pub(crate) first_front: Part,
     pub(crate) second_front: Part,
     ghost larger: { words.m ≡ max first second },
-    ghost fronts: { (first_front.after ≡ words.q ^ (words.m - first)) × (first_front.count ≡ words.q ^ first) × (second_front.after ≡ words.q ^ (words.m - second)) × (second_front.count ≡ words.q ^ second) },
+    ghost fronts: { (first_front.after ≡ words.q ^ (words.m - first))
+        × (first_front.count ≡ words.q ^ first)
+        × (second_front.after ≡ words.q ^ (words.m - second))
+        × (second_front.count ≡ words.q ^ second) },
 }
 
 // How many words of m letters two parts of these alphabets have. The bounds on q are those of the first part.
@@ -53,13 +56,18 @@ fn common_words(q: usize, other: usize, m: usize) -> Result<usize, Fault>
 }
 
 impl RuleSizes {
+    ghost use Rattle.bench.specs.Benches.{bench_of};
     ghost use Rattle.bench.specs.Sized.{SizesOf};
 
     // The sizes of the label of a rule under a density, where they make a bench.
     pub(crate) fn of<C: Charge, R: Rule, D: Density<C>>(
         parts: &Parts<R, D>,
     ) -> Result<RuleSizes, Fault>
-        ensures { MatchResult result (λ s. (bench_checked (R.meaning parts.now.rule) (D.weights C.kind parts.now.density) ≡ Ok tt) × (SizesOf s (R.meaning parts.now.rule) (D.weights C.kind parts.now.density))) (λ f. bench_checked (R.meaning parts.now.rule) (D.weights C.kind parts.now.density) ≡ Err (refusal f)) }
+        ensures { let b = bench_of C.kind (R.meaning parts.now.rule)
+            (D.weights C.kind parts.now.density) in
+            MatchResult result
+            (λ s. (bench_checked b ≡ Ok tt) × SizesOf s b.rule b.density)
+            (λ f. bench_checked b ≡ Err (refusal f)) }
     {
         let q = parts.rule.q();
         let n = parts.rule.n();
@@ -81,12 +89,18 @@ impl RuleSizes {
 }
 
 impl TwoSizes {
+    ghost use Rattle.bench.specs.Sized.{TwoSizesOf};
+
     // The sizes of the label of two densities, where they can be compared.
     pub(crate) fn of<C: Charge, D: Density<C>, E: Density<C>>(
         first: &D,
         second: &E,
     ) -> Result<TwoSizes, Fault>
-        ensures { MatchResult result (λ s. (pair_checked (D.weights C.kind first.now) (E.weights C.kind second.now) ≡ Ok tt) × (s.words.q ≡ (D.weights C.kind first.now).q) × (s.first ≡ (D.weights C.kind first.now).k) × (s.second ≡ (E.weights C.kind second.now).k) × (s.words.q ≡ (E.weights C.kind second.now).q)) (λ f. pair_checked (D.weights C.kind first.now) (E.weights C.kind second.now) ≡ Err (refusal f)) }
+        ensures { let d = D.weights C.kind first.now in
+            let e = E.weights C.kind second.now in
+            MatchResult result
+            (λ s. (pair_checked d e ≡ Ok tt) × TwoSizesOf s d e)
+            (λ f. pair_checked d e ≡ Err (refusal f)) }
     {
         let q = first.q();
         let m = first.k().max(second.k());

@@ -1,7 +1,5 @@
 // The label of two densities.
 ghost use Rattle.std.specs.Prelude.{◌≡◌, ◌-◌, ◌/◌, ◌%◌, ◌^◌, ◌≤◌, refl, slice_index_or};
-ghost use Rattle.bench.specs.Labels.{two_label, listed};
-ghost use Rattle.bench.specs.Sized.{first_sized, second_sized, words-labelled};
 
 use crate::sizes::TwoSizes;
 use automaton::Density;
@@ -17,9 +15,11 @@ pub struct TwoLabel<'a, 'b, D, E> {
 }
 
 impl<C: Charge, D: Density<C>, E: Density<C>> Label<C> for TwoLabel<'_, '_, D, E> {
-    ghost labels = { λ K t. listed t.sizes.words.q t.sizes.words.m (two_label K.group (first_sized t.sizes (D.weights K t.first.now)) (second_sized t.sizes (E.weights K t.second.now))) };
+    ghost use Rattle.bench.specs.Labelling.{two_label_meant, two_label-labelled};
 
-    ghost lawful = { λ K t. words-labelled t.sizes.words t.sizes.words.m refl (two_label K.group (first_sized t.sizes (D.weights K t.first.now)) (second_sized t.sizes (E.weights K t.second.now))) };
+    ghost labels = { λ K t. two_label_meant D.Density E.Density K t };
+
+    ghost lawful = { λ K t. two_label-labelled D.Density E.Density K t };
 
     fn q(&self) -> usize {
         self.sizes.words.q

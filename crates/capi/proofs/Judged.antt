@@ -15,8 +15,9 @@ use Rattle.preset.specs.declared.entry.Entry.{Entry}
 use Rattle.preset.specs.declared.header.Header.{Header}
 use Rattle.bench.specs.declared.state.Break.{Break}
 use Rattle.bench.specs.Labels.{rule_label_list}
-use Rattle.bench.specs.Verdicts.{bench_checked}
-use Rattle.preset_bench.specs.Finds.{JudgeFinds, preset_rule, preset_density, preset_checked, preset_found}
+use Rattle.bench.specs.Benches.{bench_of}
+use Rattle.bench.specs.Verdicts.{lent, bench_checked}
+use Rattle.preset_bench.specs.Finds.{JudgeFinds, preset_bench, preset_rule, preset_density, preset_checked, preset_found}
 use Rattle.preset_bench.proofs.Counts.{counted, crossings_few}
 use Rattle.capi.specs.declared.answers.JudgeAnswer.{JudgeAnswer}
 use Rattle.capi.specs.Judging.{JudgedOn, told_of}
@@ -36,13 +37,13 @@ module _ {C : Type 0} (K : Kind C) (h : Header) (letters : List ℕ) (charges : 
       let r = preset_rule h letters in
       let d = preset_density K h charges in
       let label = rule_label_list K.group r d in
-      ap (λ (b : Bool). and_then (preset_checked K h letters charges) (λ _. and_then (bench_checked r d) (λ _.
+      ap (λ (b : Bool). and_then (preset_checked K h letters charges) (λ _. and_then (bench_checked (bench_of K r d)) (λ _.
       cond (b && nat_le (2 * label.k - 1) cells) (Ok (failure K padding label)) (Err (refused_at ShortStrip 0)))))
       (le-min (h.q ^ (h.n + h.k - 1 - 1)) room most_words (crossings_few h sized))
 
   pub judged-on : (S : Sending C) (entries old new : List Entry) (strip ring : List ℕ) (work now : List C) (verdict : Result (Option (Break C)) Fault) (count : ℕ) (answer : JudgeAnswer)
       → map S.entry charges ≡ entries → length work ≡ min (length old) most_words
-      → JudgeFinds K (preset_rule h letters) (preset_density K h charges) (preset_found K (length work) (length strip) h letters charges) work now strip ring verdict
+      → JudgeFinds (preset_bench K h letters charges) (preset_found K (length work) (length strip) h letters charges) (lent work strip) (lent now ring) verdict
       → MatchResult verdict (λ _. count ≡ h.q ^ (h.n + h.k - 1 - 1)) (λ _. count ≡ 0)
       → new ≡ front (map S.entry (take count now)) old
       → answer ≡ told_of S verdict
@@ -52,8 +53,8 @@ module _ {C : Type 0} (K : Kind C) (h : Header) (letters : List ℕ) (charges : 
       let d = preset_density K h charges in
       let same : preset_found K (length work) (length strip) h letters charges ≡ preset_found K (length old) (length strip) h letters charges =
       ap (λ n. preset_found K n (length strip) h letters charges) size ∙ room-enough (length old) (length strip) in
-      let is : JudgeFinds K r' d (preset_found K (length old) (length strip) h letters charges) work now strip ring verdict =
-      subst (λ f. JudgeFinds K r' d f work now strip ring verdict) same finds in
+      let is : JudgeFinds (bench_of K r' d) (preset_found K (length old) (length strip) h letters charges) (lent work strip) (lent now ring) verdict =
+      subst (λ f. JudgeFinds (bench_of K r' d) f (lent work strip) (lent now ring) verdict) same finds in
       record {
         charges = charges;
         sent = sent;

@@ -10,6 +10,7 @@ use Rattle.bench.specs.declared.state.Break.{Break}
 use Rattle.bench.specs.declared.state.Verdict.{Verdict}
 use Rattle.bench.specs.declared.state.Verdict.TheVariants.{Holds, Breaks}
 use Rattle.bench.specs.Answers.{verdict_means, found_said, break_of}
+use Rattle.bench.specs.Benches.{bench_of}
 use Rattle.bench.specs.Laws.{VerdictRight}
 use Rattle.bench.specs.Verdicts.{Judgement, Broken, bench_checked, broken}
 use Rattle.bench.specs.Verdicts.Judgement.{holds, breaks}
@@ -40,8 +41,8 @@ break-means K (Holds h) = refl
 break-means K (Breaks b found) = refl
 
 module _ {C : Type 0} (K : Kind C) (S : Sending C) (r : Local) (d : Weights K.group.Carrier) (handed : Strips K.group.Carrier) (script : List Asking)
-    (lawful : Lawful r) (weighed : Weighed d) (passed : bench_checked r d ≡ Ok tt)
-    (found : Result (Option (ℕ × List ℕ)) Refusal) (right : VerdictRight K r d found) (cells : List ℕ) (old new : List ScriptAnswer) where
+    (lawful : Lawful r) (weighed : Weighed d) (passed : bench_checked (bench_of K r d) ≡ Ok tt)
+    (found : Result (Option (ℕ × List ℕ)) Refusal) (right : VerdictRight (bench_of K r d) found) (cells : List ℕ) (old new : List ScriptAnswer) where
   abbrev now : List ℕ → K.group.Carrier
   now = total K.group d
 
@@ -55,7 +56,7 @@ module _ {C : Type 0} (K : Kind C) (S : Sending C) (r : Local) (d : Weights K.gr
   finds-on : {H B : Type 0} (v : Verdict C H B) → Ok (verdict_means K v) ≡ verdict_on now later found → AnsweredIf K S r d handed script (break_of v) cells old new →
       PlayFinds K S r d handed script found cells old new (Ok (break_of v))
   finds-on {H} {B} (Holds h) said answered =
-      let log = subst (λ j. LogTrue K r d j (calls_in script) handed) (sym said) (log_true K r d lawful weighed passed found (calls_in script) handed right) in
+      let log = subst (λ j. LogTrue (bench_of K r d) j (calls_in script) handed) (sym said) (log_true K r d lawful weighed passed found (calls_in script) handed right) in
       let true_log = subst (λ l. WithoutGaps K r d l × OnEveryLine (LineTrue K r d) l) (sym (session_alike K r d handed script).0) log in
       record {
         verdict_is = record { said = sym (break-means {H = H} {B = B} K (Holds h)) ∙ said-by _ said; right = right };

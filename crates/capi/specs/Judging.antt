@@ -15,6 +15,7 @@ use Rattle.preset.specs.Sending.{Sending, voices_sending, pitch_sending, channel
 use Rattle.preset.specs.declared.entry.Entry.{Entry}
 use Rattle.preset.specs.declared.header.Header.{Header}
 use Rattle.bench.specs.declared.state.Break.{Break}
+use Rattle.bench.specs.Benches.{bench_of}
 use Rattle.bench.specs.Labels.{rule_label_list}
 use Rattle.bench.specs.Laws.{VerdictRight}
 use Rattle.preset_bench.specs.Finds.{FoundIs, preset_rule, preset_density, preset_found, sent_found}
@@ -23,7 +24,7 @@ use Rattle.capi.specs.Answers.{judge_answer}
 
 -- a verdict of a rule under a density
 abbrev pub VerdictIs : {C : Type 0} (K : Kind C) → Local → Weights K.group.Carrier → Result (Option (ℕ × List ℕ)) Refusal → Result (Option (Break C)) Fault → Type 0
-VerdictIs K r d = FoundIs K (total K.group d) (λ c. total K.group d (next r c)) (VerdictRight K r d)
+VerdictIs K r d = FoundIs K (total K.group d) (λ c. total K.group d (next r c)) (VerdictRight (bench_of K r d))
 
 -- what C is told of a verdict
 abbrev pub told_of : {C : Type 0} → Sending C → Result (Option (Break C)) Fault → JudgeAnswer

@@ -15,7 +15,9 @@ use preset_bench::{fill_charges, judge};
 // How many crossings were written: one for each word of a letter less than the label's, unless judging was refused.
 fn crossing_count<C: Charge>(header: Header, found: &Result<Option<Break<C>>, Fault>) -> usize
     requires { Sized header }
-    ensures { MatchResult found.now (λ _. result ≡ header.q ^ (header.n + header.k - 1 - 1)) (λ _. result ≡ 0) }
+    ensures { MatchResult found.now
+        (λ _. result ≡ header.q ^ (header.n + header.k - 1 - 1))
+        (λ _. result ≡ 0) }
 {
     match found {
         Ok(_) => header.q.pow((header.n + header.k - 2) as u32) as usize,
@@ -44,7 +46,9 @@ pub(crate) fn judge_charges<C: Sent>(
     requires kind { preset.kind ≡ C.sending.named }
     requires charge_room { length charges.old ≡ most_words }
     requires crossing_room { length work.old ≡ most_words }
-    ensures { JudgedOn C.kind C.sending preset.entry.header preset.entry.letters.now preset.entry.entries.now crossings.old crossings.new ring.old ring.new result }
+    ensures { let p = preset.entry in
+        JudgedOn C.kind C.sending p.header p.letters.now p.entries.now
+        crossings.old crossings.new ring.old ring.new result }
 {
     let Ok(()) = fill_charges(preset.entries, charges) else {
         unreachable!()

@@ -12,7 +12,9 @@ use preset::{Entry, Loaded, STRIP};
 
 fn judge_voices(preset: Loaded<'_>, crossings: &mut [Entry], ring: &mut [u8]) -> JudgeAnswer
     requires { preset.kind ≡ kind.Voices }
-    ensures { JudgedOn voices voices_sending preset.entry.header preset.entry.letters.now preset.entry.entries.now crossings.old crossings.new ring.old ring.new result }
+    ensures { let p = preset.entry in
+        JudgedOn voices voices_sending p.header p.letters.now p.entries.now
+        crossings.old crossings.new ring.old ring.new result }
 {
     let mut charges = [Voices::zero(); STRIP];
     let mut work = [Voices::zero(); STRIP];
@@ -21,7 +23,9 @@ fn judge_voices(preset: Loaded<'_>, crossings: &mut [Entry], ring: &mut [u8]) ->
 
 fn judge_pitch(preset: Loaded<'_>, crossings: &mut [Entry], ring: &mut [u8]) -> JudgeAnswer
     requires { preset.kind ≡ kind.Pitch }
-    ensures { JudgedOn pitch pitch_sending preset.entry.header preset.entry.letters.now preset.entry.entries.now crossings.old crossings.new ring.old ring.new result }
+    ensures { let p = preset.entry in
+        JudgedOn pitch pitch_sending p.header p.letters.now p.entries.now
+        crossings.old crossings.new ring.old ring.new result }
 {
     let mut charges = [Pitch::zero(); STRIP];
     let mut work = [Pitch::zero(); STRIP];
@@ -30,7 +34,9 @@ fn judge_pitch(preset: Loaded<'_>, crossings: &mut [Entry], ring: &mut [u8]) -> 
 
 fn judge_channels(preset: Loaded<'_>, crossings: &mut [Entry], ring: &mut [u8]) -> JudgeAnswer
     requires { preset.kind ≡ kind.Channels }
-    ensures { JudgedOn channels channels_sending preset.entry.header preset.entry.letters.now preset.entry.entries.now crossings.old crossings.new ring.old ring.new result }
+    ensures { let p = preset.entry in
+        JudgedOn channels channels_sending p.header p.letters.now p.entries.now
+        crossings.old crossings.new ring.old ring.new result }
 {
     let mut charges = [Channels::zero(); STRIP];
     let mut work = [Channels::zero(); STRIP];
@@ -39,7 +45,9 @@ fn judge_channels(preset: Loaded<'_>, crossings: &mut [Entry], ring: &mut [u8]) 
 
 fn judge_both(preset: Loaded<'_>, crossings: &mut [Entry], ring: &mut [u8]) -> JudgeAnswer
     requires { preset.kind ≡ kind.Both }
-    ensures { JudgedOn both both_sending preset.entry.header preset.entry.letters.now preset.entry.entries.now crossings.old crossings.new ring.old ring.new result }
+    ensures { let p = preset.entry in
+        JudgedOn both both_sending p.header p.letters.now p.entries.now
+        crossings.old crossings.new ring.old ring.new result }
 {
     let mut charges = [Both::zero(); STRIP];
     let mut work = [Both::zero(); STRIP];
@@ -52,7 +60,9 @@ pub(crate) fn judge_kind(
     crossings: &mut [Entry],
     ring: &mut [u8],
 ) -> JudgeAnswer
-    ensures { JudgedAs preset.entry.kind preset.entry.header preset.entry.letters.now preset.entry.entries.now crossings.old crossings.new ring.old ring.new result }
+    ensures { let p = preset.entry in
+        JudgedAs p.kind p.header p.letters.now p.entries.now
+        crossings.old crossings.new ring.old ring.new result }
 {
     match preset.kind {
         ChargeKind::Voices => judge_voices(preset, crossings, ring),

@@ -14,7 +14,8 @@ pub extern "C" fn ringbench_judge(
     crossings: &mut [Entry],
     ring: &mut [u8],
 ) -> JudgeAnswer
-    ensures { JudgeTells (whole_preset bytes.now) crossings.old crossings.new ring.old ring.new result }
+    ensures { JudgeTells (whole_preset bytes.now)
+        crossings.old crossings.new ring.old ring.new result }
 {
     let mut strips = Strips::new();
     match strips.read(bytes) {

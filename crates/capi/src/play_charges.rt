@@ -2,11 +2,12 @@
 ghost use Rattle.std.specs.Prelude.{◌≡◌, ◌≤◌, map, length};
 ghost use Rattle.fault.specs.Limits.{most_words};
 ghost use Rattle.criterion.specs.Search.{most_shown};
-ghost use Rattle.bench.specs.Answers.{break_of, verdict_parts};
+ghost use Rattle.bench.specs.Answers.{break_of};
+ghost use Rattle.bench.specs.States.{draft_bench, verdict_bench};
 ghost use Rattle.bench.specs.Verdicts.{judge_found};
 ghost use Rattle.player.specs.Answers.{strips};
 ghost use Rattle.player.specs.Whole.{with_answers};
-ghost use Rattle.preset_bench.specs.Finds.{preset_rule, preset_density, preset_found};
+ghost use Rattle.preset_bench.specs.Finds.{preset_bench, preset_found};
 ghost use Rattle.capi.specs.Scripts.{script_call};
 ghost use Rattle.capi.specs.Playing.{AnsweredIf, PlayFinds, PlayedOn};
 
@@ -34,7 +35,10 @@ fn play_judged<C: Sent, R: Rule + Drop, D: Density<C> + Drop>(
 ) -> Option<Break<C>>
     requires { length script.now ≤ length answers.old }
     ensures found { result ≡ break_of verdict }
-    ensures answered { AnsweredIf C.kind C.sending (R.meaning (verdict_parts (λ h. h.parts) (λ b. b.parts) verdict).rule) (D.weights C.kind (verdict_parts (λ h. h.parts) (λ b. b.parts) verdict).density) (strips C.kind cells.old spare.old opening.old crossed.old touched.old) (map (script_call rings.now) script.now) result cells.new answers.old answers.new }
+    ensures answered { let b = verdict_bench verdict in
+        AnsweredIf C.kind C.sending b.rule b.density
+        (strips C.kind cells.old spare.old opening.old crossed.old touched.old)
+        (map (script_call rings.now) script.now) result cells.new answers.old answers.new }
 {
     match verdict {
         Verdict::Holds(bench) => {
@@ -62,7 +66,12 @@ fn play_draft<C: Sent, R: Rule + Drop, D: Density<C> + Drop>(
     answers: &mut [ScriptAnswer],
 ) -> Result<Option<Break<C>>, Fault>
     requires { length script.now ≤ length answers.old }
-    ensures { PlayFinds C.kind C.sending (R.meaning draft.parts.rule) (D.weights C.kind draft.parts.density) (strips C.kind cells.old spare.old opening.old crossed.old touched.old) (map (script_call rings.now) script.now) (judge_found C.kind (length crossings.old) (length ring.old) (R.meaning draft.parts.rule) (D.weights C.kind draft.parts.density)) cells.new answers.old answers.new result }
+    ensures { let b = draft_bench draft in
+        PlayFinds C.kind C.sending b.rule b.density
+        (strips C.kind cells.old spare.old opening.old crossed.old touched.old)
+        (map (script_call rings.now) script.now)
+        (judge_found b (length crossings.old) (length ring.old))
+        cells.new answers.old answers.new result }
 {
     let verdict = draft.judge(crossings, ring)?;
     Ok(play_judged(
@@ -84,7 +93,15 @@ fn play_tables<C: Sent>(
     touched: &mut [C],
     answers: &mut [ScriptAnswer],
 ) -> Result<Option<Break<C>>, Fault>
-    ensures { PlayFinds C.kind C.sending (preset_rule preset.entry.header preset.entry.letters.now) (preset_density C.kind preset.entry.header charges.now) (strips C.kind cells.old spare.old opening.old crossed.old touched.old) (map (script_call rings.now) script.now) (with_answers (length script.now) (length answers.old) (preset_found C.kind (length crossings.old) most_shown preset.entry.header preset.entry.letters.now charges.now)) cells.new answers.old answers.new result }
+    ensures { let h = preset.entry.header in
+        let letters = preset.entry.letters.now in
+        let b = preset_bench C.kind h letters charges.now in
+        let found = preset_found C.kind (length crossings.old) most_shown h letters charges.now in
+        PlayFinds C.kind C.sending b.rule b.density
+        (strips C.kind cells.old spare.old opening.old crossed.old touched.old)
+        (map (script_call rings.now) script.now)
+        (with_answers (length script.now) (length answers.old) found)
+        cells.new answers.old answers.new result }
 {
     Stop::ShortStrip.unless(script.len() <= answers.len())?;
     let draft = draft(preset, charges)?;
@@ -113,7 +130,10 @@ pub(crate) fn play_charges<C: Sent>(
     requires kind { preset.kind ≡ C.sending.named }
     requires charge_room { length charges.old ≡ most_words }
     requires crossing_room { length crossings.old ≡ most_words }
-    ensures { PlayedOn C.kind C.sending preset.entry.header preset.entry.letters.now preset.entry.entries.now (map (script_call rings.now) script.now) cells.new answers.old answers.new (strips C.kind cells.old spare.old opening.old crossed.old touched.old) result }
+    ensures { let p = preset.entry in
+        PlayedOn C.kind C.sending p.header p.letters.now p.entries.now
+        (map (script_call rings.now) script.now) cells.new answers.old answers.new
+        (strips C.kind cells.old spare.old opening.old crossed.old touched.old) result }
 {
     let Ok(()) = fill_charges(preset.entries, charges) else {
         unreachable!()

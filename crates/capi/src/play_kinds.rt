@@ -22,7 +22,10 @@ fn play_voices(
     answers: &mut [ScriptAnswer],
 ) -> JudgeAnswer
     requires { preset.kind ≡ kind.Voices }
-    ensures { PlayedZeroed voices voices_sending preset.entry.header preset.entry.letters.now preset.entry.entries.now (map (script_call rings.now) script.now) cells.old cells.new answers.old answers.new result }
+    ensures { let p = preset.entry in
+        PlayedZeroed voices voices_sending p.header p.letters.now p.entries.now
+        (map (script_call rings.now) script.now)
+        cells.old cells.new answers.old answers.new result }
 {
     let zero = Voices::zero();
     play_charges(
@@ -48,7 +51,10 @@ fn play_pitch(
     answers: &mut [ScriptAnswer],
 ) -> JudgeAnswer
     requires { preset.kind ≡ kind.Pitch }
-    ensures { PlayedZeroed pitch pitch_sending preset.entry.header preset.entry.letters.now preset.entry.entries.now (map (script_call rings.now) script.now) cells.old cells.new answers.old answers.new result }
+    ensures { let p = preset.entry in
+        PlayedZeroed pitch pitch_sending p.header p.letters.now p.entries.now
+        (map (script_call rings.now) script.now)
+        cells.old cells.new answers.old answers.new result }
 {
     let zero = Pitch::zero();
     play_charges(
@@ -74,7 +80,10 @@ fn play_channels(
     answers: &mut [ScriptAnswer],
 ) -> JudgeAnswer
     requires { preset.kind ≡ kind.Channels }
-    ensures { PlayedZeroed channels channels_sending preset.entry.header preset.entry.letters.now preset.entry.entries.now (map (script_call rings.now) script.now) cells.old cells.new answers.old answers.new result }
+    ensures { let p = preset.entry in
+        PlayedZeroed channels channels_sending p.header p.letters.now p.entries.now
+        (map (script_call rings.now) script.now)
+        cells.old cells.new answers.old answers.new result }
 {
     let zero = Channels::zero();
     play_charges(
@@ -100,7 +109,10 @@ fn play_both(
     answers: &mut [ScriptAnswer],
 ) -> JudgeAnswer
     requires { preset.kind ≡ kind.Both }
-    ensures { PlayedZeroed both both_sending preset.entry.header preset.entry.letters.now preset.entry.entries.now (map (script_call rings.now) script.now) cells.old cells.new answers.old answers.new result }
+    ensures { let p = preset.entry in
+        PlayedZeroed both both_sending p.header p.letters.now p.entries.now
+        (map (script_call rings.now) script.now)
+        cells.old cells.new answers.old answers.new result }
 {
     let zero = Both::zero();
     play_charges(
@@ -126,7 +138,10 @@ pub(crate) fn play_kind(
     cells: &mut [u8],
     answers: &mut [ScriptAnswer],
 ) -> JudgeAnswer
-    ensures { PlayedAs preset.entry.kind preset.entry.header preset.entry.letters.now preset.entry.entries.now (map (script_call rings.now) script.now) cells.old cells.new answers.old answers.new result }
+    ensures { let p = preset.entry in
+        PlayedAs p.kind p.header p.letters.now p.entries.now
+        (map (script_call rings.now) script.now)
+        cells.old cells.new answers.old answers.new result }
 {
     match preset.kind {
         ChargeKind::Voices => play_voices(preset, script, rings, cells, answers),

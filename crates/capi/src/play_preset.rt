@@ -20,7 +20,8 @@ pub extern "C" fn ringbench_play(
     cells: &mut [u8],
     answers: &mut [ScriptAnswer],
 ) -> JudgeAnswer
-    ensures { PlayTells (whole_preset bytes.now) (map (script_call rings.now) script.now) cells.old cells.new answers.old answers.new result }
+    ensures { PlayTells (whole_preset bytes.now) (map (script_call rings.now) script.now)
+        cells.old cells.new answers.old answers.new result }
 {
     let mut strips = Strips::new();
     match strips.read(bytes) {

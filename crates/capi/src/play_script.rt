@@ -1,7 +1,9 @@
 // A script played on a bench that holds.
 ghost use Rattle.std.specs.Prelude.{◌≡◌, ◌≤◌, map, length};
 ghost use Rattle.std.specs.Option.{option_map};
-ghost use Rattle.player.specs.Answers.{strips, answered, open_cells, of_player};
+ghost use Rattle.bench.specs.States.{holding_bench};
+ghost use Rattle.player.specs.Answers.{strips, answered, open_cells};
+ghost use Rattle.player.specs.Promises.{player_ring, player_holding, ring_len};
 ghost use Rattle.capi.specs.Scripts.{asks, script_call, Obeys};
 ghost use Rattle.capi.specs.Playing.{Answered};
 
@@ -24,8 +26,13 @@ fn answer_one<C: Charge, R: Rule, D: Density<C>>(
     crossed: &mut [C],
     touched: &mut [C],
 ) -> (PlayerOf<C, R, D>, Option<Answer<C>>)
-    ensures obeys { Obeys C.kind (R.meaning (of_player (λ h. h) (λ p. p.bench) player).parts.rule) (D.weights C.kind (of_player (λ h. h) (λ p. p.bench) player).parts.density) (open_cells (λ p. p.len) player) (strips C.kind cells.old spare.old opening.old crossed.old touched.old) (asks asked.entry) (option_map (answered C.kind) result.1) (strips C.kind cells.new spare.new opening.new crossed.new touched.new) (open_cells (λ p. p.len) result.0) }
-    ensures bench { of_player (λ h. h) (λ p. p.bench) result.0 ≡ of_player (λ h. h) (λ p. p.bench) player }
+    ensures obeys { let ring = player_ring player in
+        Obeys C.kind ring.bench.rule ring.bench.density ring.len
+        (strips C.kind cells.old spare.old opening.old crossed.old touched.old)
+        (asks asked.entry) (option_map (answered C.kind) result.1)
+        (strips C.kind cells.new spare.new opening.new crossed.new touched.new)
+        (open_cells ring_len result.0) }
+    ensures bench { player_holding result.0 ≡ player_holding player }
 {
     match asked {
         Ok(Some(call)) => obey(player, call, cells, spare, opening, crossed, touched),
@@ -47,7 +54,10 @@ pub(crate) fn play_script<C: Sent, R: Rule + Drop, D: Density<C> + Drop>(
     answers: &mut [ScriptAnswer],
 )
     requires { length script.now ≤ length answers.old }
-    ensures { Answered C.kind C.sending (R.meaning bench.parts.rule) (D.weights C.kind bench.parts.density) (strips C.kind cells.old spare.old opening.old crossed.old touched.old) (map (script_call rings.now) script.now) cells.new answers.old answers.new }
+    ensures { let b = holding_bench bench in
+        Answered C.kind C.sending b.rule b.density
+        (strips C.kind cells.old spare.old opening.old crossed.old touched.old)
+        (map (script_call rings.now) script.now) cells.new answers.old answers.new }
 {
     let mut player = Player::Idle(bench);
     for i in 0..script.len() {

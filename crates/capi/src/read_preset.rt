@@ -15,9 +15,12 @@ pub extern "C" fn ringbench_read(
     letters: &mut [u8],
     entries: &mut [Entry],
 ) -> ReadAnswer
-    ensures answer { result ≡ read_answer (header_of (whole_reading letters.old entries.old bytes.now)) }
-    ensures letters { letters.new ≡ strip_after (λ p. p.letters) letters.old (whole_reading letters.old entries.old bytes.now) }
-    ensures entries { entries.new ≡ strip_after (λ p. p.entries) entries.old (whole_reading letters.old entries.old bytes.now) }
+    ensures answer { let reading = whole_reading letters.old entries.old bytes.now in
+        result ≡ read_answer (header_of reading) }
+    ensures letters { let reading = whole_reading letters.old entries.old bytes.now in
+        letters.new ≡ strip_after (λ p. p.letters) letters.old reading }
+    ensures entries { let reading = whole_reading letters.old entries.old bytes.now in
+        entries.new ≡ strip_after (λ p. p.entries) entries.old reading }
 {
     read_answer(read_whole(bytes, letters, entries))
 }

@@ -1,6 +1,6 @@
 // The calls of a script from C.
 ghost use Rattle.std.specs.Prelude.{◌≡◌};
-ghost use Rattle.automaton.specs.Making.{lent};
+ghost use Rattle.automaton.specs.Making.{lent_items};
 ghost use Rattle.capi.specs.Scripts.{ring_at, script_call, asks};
 
 use fault::{Fault, Stop};
@@ -29,7 +29,7 @@ pub struct ScriptCall {
 
 // A ring from the letters of all rings.
 fn ring_at(letters: &[u8], at: usize, len: usize) -> Result<&[u8], Fault>
-    ensures { lent result ≡ ring_at letters.now at len }
+    ensures { lent_items result ≡ ring_at letters.now at len }
 {
     if at > letters.len() || len > letters.len() - at {
         return Err(Stop::ShortStrip.at(0));

@@ -8,7 +8,7 @@ use Rattle.bench.proofs.Rights.{verdict_right}
 use Rattle.player.specs.Logs.{WithoutGaps}
 use Rattle.player.proofs.Logs.{logs_true}
 use Rattle.player.specs.Logs.{Log}
-use Rattle.cases.specs.Examples.{Count, elementary, letter_count}
+use Rattle.cases.specs.Examples.{Count, elementary, letter_count, counting}
 use Rattle.cases.specs.WorkedLog.{session, counts, WorkedLog}
 
 lawful_184 : Lawful (elementary 184)
@@ -19,7 +19,7 @@ letters_weighed = record { sizes = grind arith; each = refl }
 
 -- the verdict on strips that are just long enough is that no word fails
 keeps_184 : KeepsTotal voices.group (elementary 184) letter_count
-keeps_184 = (verdict_right voices 4 5 (elementary 184) letter_count lawful_184 letters_weighed).0
+keeps_184 = (verdict_right voices 4 5 (counting (elementary 184)) lawful_184 letters_weighed).0
 
 -- the lines of a log, one after another
 infixl 4 ◌also◌

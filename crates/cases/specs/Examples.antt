@@ -1,12 +1,17 @@
 -- The rules, the densities and the meanings that the worked examples are about. Assumes nothing.
-use Rattle.std.specs.Prelude.{ℕ, ◌/◌, ◌%◌, ◌^◌, List, [], ◌∷◌, map, replicate, pos}
+use Rattle.std.specs.Prelude.{ℕ, ◌/◌, ◌%◌, ◌^◌, List, [], ◌∷◌, map, replicate, pos, Ok, Result}
 use Rattle.std.proofs.Common.{lit<}
-use Rattle.charge.specs.Kinds.{voices, pitch_means, channel_means}
+use Rattle.fault.specs.Refusals.{Refusal}
+use Rattle.charge.specs.Kinds.{voices, pitch, channels, pitch_means, channel_means}
+use Rattle.charge.specs.declared.kind.ChargeKind.TheVariants.{Voices}
 use Rattle.charge.specs.Ranges.{pitch_end, channel_bits}
 use Rattle.charge.specs.Residues.{Below, residue}
 use Rattle.automaton.specs.Making.{table_rule, pattern_density}
 use Rattle.automaton.specs.Meanings.{Local, Weights}
 use Rattle.automaton.specs.Words.{code, table}
+use Rattle.bench.specs.Benches.{Bench, bench_of}
+use Rattle.bench.specs.Verdicts.{Judgement, breaks}
+use Rattle.preset.specs.Presets.{Preset}
 
 -- what numbers of voices, pitch classes and sets of channels mean
 abbrev pub Count : Type 0
@@ -46,6 +51,39 @@ weighing zero one = record { q = 2; k = 1; charges = zero ∷ one ∷ [] }
 abbrev pub letter_count : Weights Count
 letter_count = weighing (count 0) (count 1)
 
+-- benches that are judged: a rule under the density that counts letters, rule 150 in channels where the letter 1 weighs
+-- channel set 1, and every answer 1 in pitch where the letter 1 weighs 4
+abbrev pub counting : Local → Bench voices
+counting rule = bench_of voices rule letter_count
+
+abbrev pub bench_150 : Bench channels
+bench_150 = bench_of channels (elementary 150) (weighing (channel_set 0) (channel_set 1))
+
+abbrev pub bench_of_ones : Bench pitch
+bench_of_ones = bench_of pitch ones (weighing (class 0) (class 4))
+
+-- the break of a bench
+abbrev pub broken_at : {A : Type 0} → ℕ → ℕ → A → A → Result (Judgement A) Refusal
+broken_at word len first second = Ok (breaks (record { word = word; len = len; first = first; second = second }))
+
 -- a word of two letters of two, which is worth one voice where it stands
 abbrev pub one_voice_on : List ℕ → Weights Count
 one_voice_on word = pattern_density voices 2 2 (code 2 word) (record { count = pos 1 })
+
+-- the two patterns that are compared
+abbrev pub pattern_10 : Weights Count
+pattern_10 = one_voice_on (1 ∷ 0 ∷ [])
+
+abbrev pub pattern_01 : Weights Count
+pattern_01 = one_voice_on (0 ∷ 1 ∷ [])
+
+-- the bytes of rule 184 in voices, and the preset that they are
+abbrev pub bytes_184 : List ℕ
+bytes_184 = 0 ∷ 2 ∷ 3 ∷ 1 ∷ 1 ∷ 0 ∷ 0 ∷ 0 ∷ 1 ∷ 1 ∷ 1 ∷ 0 ∷ 1 ∷ 0 ∷ 2 ∷ []
+
+abbrev pub preset_184 : Preset
+preset_184 = record {
+  head = record { kind = Voices; header = record { kind = 0; q = 2; n = 3; l = 1; k = 1 } };
+  letters = 0 ∷ 0 ∷ 0 ∷ 1 ∷ 1 ∷ 1 ∷ 0 ∷ 1 ∷ [];
+  entries = record { signed = pos 0; plain = 0 } ∷ record { signed = pos 1; plain = 0 } ∷ [];
+}

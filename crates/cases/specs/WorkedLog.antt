@@ -11,7 +11,7 @@ use Rattle.player.specs.Calls.Call.{opens, touches, steps, reads, closes}
 use Rattle.player.specs.Calls.Answer.{done, reading, refused}
 use Rattle.player.specs.Logs.{Line, Log, OnEveryLine, WithoutGaps, LineTrue}
 use Rattle.player.specs.Logs.Log.{made, ◌then◌}
-use Rattle.cases.specs.Examples.{Count, count, elementary, letter_count}
+use Rattle.cases.specs.Examples.{Count, count, elementary, letter_count, counting}
 
 -- strips as long as the ring or longer; what stands past the ring stays
 abbrev pub blank : Strips Count
@@ -107,7 +107,7 @@ session ring read_1 read_2 read_touched =
 pub record WorkedLog (log : Log Count) : Type 0 where
   pub lawful : Lawful (elementary 184)
   pub weighed : Weighed letter_count
-  pub bench : bench_checked (elementary 184) letter_count ≡ Ok tt
+  pub bench : bench_checked (counting (elementary 184)) ≡ Ok tt
   pub keeps : KeepsTotal voices.group (elementary 184) letter_count
   pub no_gaps : WithoutGaps voices (elementary 184) letter_count log
   pub lines : OnEveryLine (LineTrue voices (elementary 184) letter_count) log

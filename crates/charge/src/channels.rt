@@ -1,5 +1,5 @@
 // Charges of kind channels: sixteen bits, added by exclusive or.
-ghost use Rattle.std.specs.Prelude.{◌≡◌, Decides, bit_xor};
+ghost use Rattle.std.specs.Prelude.{◌≡◌, ◌↔◌, IsTrue, bit_xor};
 ghost use Rattle.charge.specs.Kinds.{channels};
 
 use crate::Charge;
@@ -21,7 +21,7 @@ fn symmetric_difference(a: u16, b: u16) -> u16
 
 // Stands by itself so that the check proves it with no answer, and refuses an edit of it here.
 fn equal_sets(a: u16, b: u16) -> bool
-    ensures { Decides result (a ≡ b) }
+    ensures { IsTrue result ↔ (a ≡ b) }
 {
     a == b
 }

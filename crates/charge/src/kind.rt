@@ -31,7 +31,8 @@ impl From<ChargeKind> for u64 {
 impl TryFrom<u64> for ChargeKind {
     type Error = UnknownKind;
 
-    ghost try_from_gives = { λ number kind. kind ≡ ok_or (kind_of number) (record { number = number }) };
+    ghost try_from_gives = { λ number kind. kind
+        ≡ ok_or (kind_of number) (record { number = number }) };
 
     fn try_from(number: u64) -> Result<ChargeKind, UnknownKind> {
         match number {

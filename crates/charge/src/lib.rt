@@ -1,7 +1,7 @@
 // Kinds of charge: what a ring keeps the total of. Assumes nothing.
 #![tactic(auto)]
 
-ghost use Rattle.std.specs.Prelude.{◌≡◌, Decides};
+ghost use Rattle.std.specs.Prelude.{◌≡◌, ◌↔◌, IsTrue};
 ghost use Rattle.charge.specs.Groups.{Kind, minus};
 
 mod both;
@@ -32,7 +32,7 @@ pub trait Charge: Copy {
 
     // Two charges are the same exactly when their meanings are equal.
     fn same(self, other: Self) -> bool
-        ensures { Decides result (kind.means self ≡ kind.means other) };
+        ensures { IsTrue result ↔ (kind.means self ≡ kind.means other) };
 
     // Whether the charge may be an entry of a density.
     fn is_entry(self) -> bool

@@ -17,7 +17,8 @@ pub struct Pitch {
 
 impl Pitch {
     pub fn new(class: u8) -> Option<Pitch>
-        ensures { option_map (λ p. p.class) result ≡ (if nat_lt class pitch_end then Some class else None) }
+        ensures { option_map (λ p. p.class) result
+            ≡ (if nat_lt class pitch_end then Some class else None) }
     {
         if class < PITCH_CLASSES {
             Some(Pitch { class })

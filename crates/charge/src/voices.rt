@@ -1,5 +1,5 @@
 // Charges of kind voices: whole numbers modulo 2^64, read as signed numbers.
-ghost use Rattle.std.specs.Prelude.{◌≡◌, ◌+◌, ◌-◌, ◌^◌, Decides};
+ghost use Rattle.std.specs.Prelude.{◌≡◌, ◌+◌, ◌-◌, ◌^◌, ◌↔◌, IsTrue};
 ghost use Rattle.charge.specs.Kinds.{bits, wrapped, voices};
 
 use crate::Charge;
@@ -30,7 +30,7 @@ fn wrapped_opposite(a: i64) -> i64
 
 // Stands by itself so that the check proves it with no answer, and refuses an edit of it here.
 fn equal_counts(a: i64, b: i64) -> bool
-    ensures { Decides result (a ≡ b) }
+    ensures { IsTrue result ↔ (a ≡ b) }
 {
     a == b
 }

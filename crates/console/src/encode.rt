@@ -77,7 +77,8 @@ fn encode_draft(alloc: Global, draft: &Draft) -> Result<Vec<u8>, EncodeError>
 pub fn encode_page(alloc: Global, text: &[u8]) -> Result<Vec<u8>, EncodeError>
     ensures bytes { Answered (answered vec_items result) (encoded text.now) }
     // No memory is needed to tell what is wrong with the kind or the sizes.
-    ensures sizes { IfErr (sizes_parsed text.now) (λ e. answered vec_items result ≡ from_text (Err e)) }
+    ensures sizes { IfErr (sizes_parsed text.now)
+        (λ e. answered vec_items result ≡ from_text (Err e)) }
 {
     let draft = parse(alloc, text)?;
     encode_draft(alloc, &draft)

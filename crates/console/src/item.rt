@@ -26,7 +26,8 @@ pub(crate) trait Item: Copy {
 
     // Adds a space and the item as a word.
     fn push(self, kind: ChargeKind, row: &mut String) -> Result<(), AllocError>
-        ensures { OnOk result (string_bytes row.new ≡ string_bytes row.old ++ (32 ∷ form.shows kind self)) };
+        ensures { OnOk result (string_bytes row.new
+            ≡ string_bytes row.old ++ (32 ∷ form.shows kind self)) };
 }
 
 impl Item for u8 {

@@ -34,7 +34,9 @@ fn read_items<T: Item>(
     kind: ChargeKind,
     row: Row<'_, Words<'_>>,
 ) -> Result<Vec<T>, TextError>
-    ensures { Told (read vec_items result) (each (T.form.reads kind) T.form.expected row.entry.line (words_left row.entry.value)) }
+    ensures { let words = words_left row.entry.value in
+        Told (read vec_items result)
+        (each (T.form.reads kind) T.form.expected row.entry.line words) }
 {
     let mut items = Vec::new(alloc);
     for word in row.value {

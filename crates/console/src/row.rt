@@ -25,7 +25,11 @@ pub(crate) struct Row<'a, T> {
 impl<'a, T: Copy> Row<'a, T> {
     // The row with what its value stands for, where that is something.
     fn with<U>(self, value: Option<U>, expected: Expected) -> Result<Row<'a, U>, TextError>
-        ensures { result ≡ ok_or (option_map (λ v. record { value = v; line = self.entry.line; after = self.entry.after }) value) (Wrong self.entry.line expected) }
+        ensures { let row = self.entry in
+            result
+            ≡ ok_or
+            (option_map (λ v. record { value = v; line = row.line; after = row.after }) value)
+            (Wrong row.line expected) }
     {
         let value = value.ok_or(TextError::Wrong {
             line: self.line,

@@ -52,8 +52,10 @@ pub fn page(
     entries: &[Entry],
     bytes: usize,
 ) -> Result<String, AllocError>
-    ensures text { IfOk result (λ s. string_bytes s ≡ page_text kind header letters.now entries.now bytes) }
-    ensures back { IfOk result (λ s. Holdable kind header letters.now entries.now bytes → ReadsAs kind header letters.now entries.now (string_bytes s)) }
+    ensures text { IfOk result (λ s. string_bytes s
+        ≡ page_text kind header letters.now entries.now bytes) }
+    ensures back { IfOk result (λ s. Holdable kind header letters.now entries.now bytes →
+        ReadsAs kind header letters.now entries.now (string_bytes s)) }
 {
     let rule = row_text(alloc, kind, letters)?;
     let density = row_text(alloc, kind, entries)?;

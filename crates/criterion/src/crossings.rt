@@ -18,8 +18,11 @@ pub(crate) fn head_count<C: Charge, L: Label<C>>(label: &L) -> usize
 // of v without its last letters. Of the code of a word of m - 1 letters nothing is left then.
 #[inline(always)]
 fn fronts_sum<C: Charge, L: Label<C>>(label: &L, v: usize) -> (C, usize)
-    ensures left { result.1 ≡ v / (L.labels C.kind label.now).q ^ ((L.labels C.kind label.now).k - 1) }
-    ensures sum { v < (L.labels C.kind label.now).q ^ ((L.labels C.kind label.now).k - 1) → C.kind.group.neg (C.kind.means result.0) ≡ J C.kind padding (L.labels C.kind label.now) (word (L.labels C.kind label.now).q ((L.labels C.kind label.now).k - 1) v) }
+    ensures left { let d = L.labels C.kind label.now in
+        result.1 ≡ v / d.q ^ (d.k - 1) }
+    ensures sum { let d = L.labels C.kind label.now in
+        v < d.q ^ (d.k - 1) →
+        C.kind.group.neg (C.kind.means result.0) ≡ J C.kind padding d (word d.q (d.k - 1) v) }
 {
     let q = label.q();
     let mut front = v;
@@ -35,7 +38,8 @@ fn fronts_sum<C: Charge, L: Label<C>>(label: &L, v: usize) -> (C, usize)
 // asked for site by site, and what the label keeps is then loaded once.
 #[inline(always)]
 pub fn crossing<C: Charge, L: Label<C>>(label: &L, code: usize) -> C
-    ensures { C.kind.means result ≡ slice_index_or (crossings C.kind padding (L.labels C.kind label.now)) code C.kind.group.zero }
+    ensures { let all = crossings C.kind padding (L.labels C.kind label.now) in
+        C.kind.means result ≡ slice_index_or all code C.kind.group.zero }
 {
     let (sum, left) = fronts_sum(label, code);
     if left == 0 { sum.opposite() } else { C::zero() }
@@ -43,7 +47,8 @@ pub fn crossing<C: Charge, L: Label<C>>(label: &L, code: usize) -> C
 
 // The crossing of a word from that of its front, which is a zero and all its letters but the last.
 fn next_crossing<C: Charge>(front: C, zeros: C, whole: C) -> C
-    ensures { C.kind.means result ≡ C.kind.group.add (C.kind.means front) (minus C.kind.group (C.kind.means zeros) (C.kind.means whole)) }
+    ensures { let gain = minus C.kind.group (C.kind.means zeros) (C.kind.means whole) in
+        C.kind.means result ≡ C.kind.group.add (C.kind.means front) gain }
 {
     front.plus(difference(zeros, whole))
 }
@@ -51,7 +56,8 @@ fn next_crossing<C: Charge>(front: C, zeros: C, whole: C) -> C
 // Fills a strip of as many charges with the crossings, each from that of its word's front: J(v) = J(v / q) - d(v) + d(0),
 // so that one label is asked for a word. By index, since a front stands before its word in the strip.
 pub(crate) fn fill_crossings<C: Charge, L: Label<C>>(label: &L, strip: &mut [C])
-    requires { length strip.old ≡ (L.labels C.kind label.now).q ^ ((L.labels C.kind label.now).k - 1) }
+    requires { let d = L.labels C.kind label.now in
+        length strip.old ≡ d.q ^ (d.k - 1) }
     ensures { map C.kind.means strip.new ≡ crossings C.kind padding (L.labels C.kind label.now) }
 {
     let q = label.q();

@@ -24,7 +24,8 @@ pub trait Label<C: Charge> {
 
     // The charge of the word of this code, and zero past the last code.
     fn label(&self, code: usize) -> C
-        ensures { C.kind.means result ≡ slice_index_or (labels C.kind self.now).charges code C.kind.group.zero };
+        ensures { C.kind.means result
+            ≡ slice_index_or (labels C.kind self.now).charges code C.kind.group.zero };
 }
 
 // A label as a density, so that its sum over the windows of a ring is a total.

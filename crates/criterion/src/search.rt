@@ -1,5 +1,5 @@
 // The search for the first word that fails, over lent strips.
-ghost use Rattle.std.specs.Prelude.{◌≡◌, ◌+◌, ◌-◌, ◌*◌, ◌/◌, ◌%◌, ◌^◌, ◌<◌, ◌≤◌, map, length, Decides, slice_index_or};
+ghost use Rattle.std.specs.Prelude.{◌≡◌, ◌+◌, ◌-◌, ◌*◌, ◌/◌, ◌%◌, ◌^◌, ◌<◌, ◌≤◌, ◌↔◌, map, length, IsTrue, slice_index_or};
 ghost use Rattle.fault.specs.Answers.{plainly, front};
 ghost use Rattle.automaton.specs.Words.{word};
 ghost use Rattle.criterion.specs.Answers.{seen, with_length, examined, crossings_written, ring_written};
@@ -36,7 +36,9 @@ fn code_of(q: usize, heads: usize, head: usize, last: usize) -> usize
 
 // Whether the label of the word of this code is a charge.
 fn labelled<C: Charge, L: Label<C>>(label: &L, code: usize, charge: C) -> bool
-    ensures { Decides result (slice_index_or (L.labels C.kind label.now).charges code C.kind.group.zero ≡ C.kind.means charge) }
+    ensures { let d = L.labels C.kind label.now in
+        IsTrue result
+        ↔ (slice_index_or d.charges code C.kind.group.zero ≡ C.kind.means charge) }
 {
     label.label(code).same(charge)
 }
@@ -44,9 +46,12 @@ fn labelled<C: Charge, L: Label<C>>(label: &L, code: usize, charge: C) -> bool
 // Whether the word of this code fails, `head` being the code of its first letters.
 // No struct holds a label with its crossings: a ghost field could say only truncated what two clauses say plainly.
 fn fails<C: Charge, L: Label<C>>(label: &L, crossings: &[C], head: usize, code: usize) -> bool
-    requires filled { map C.kind.means crossings.now ≡ crossings_of C.kind padding (L.labels C.kind label.now) }
-    requires front { (code / (L.labels C.kind label.now).q ≡ head) × (head < length crossings.now) }
-    ensures { result ≡ fails_at C.kind padding (L.labels C.kind label.now) (word (L.labels C.kind label.now).q (L.labels C.kind label.now).k code) }
+    requires filled { map C.kind.means crossings.now
+        ≡ crossings_of C.kind padding (L.labels C.kind label.now) }
+    requires front { (code / (L.labels C.kind label.now).q ≡ head)
+        × (head < length crossings.now) }
+    ensures { let d = L.labels C.kind label.now in
+        result ≡ fails_at C.kind padding d (word d.q d.k code) }
 {
     let crosses = difference(crossings[head], crossings[code % crossings.len()]);
     !labelled(label, code, crosses)
@@ -55,7 +60,8 @@ fn fails<C: Charge, L: Label<C>>(label: &L, crossings: &[C], head: usize, code: 
 // The smallest code of a word that fails, by the crossings. Two loops that are left at once: a chain over both ranges
 // would ask the label inside closures.
 fn first_failing<C: Charge, L: Label<C>>(label: &L, crossings: &[C]) -> Option<usize>
-    requires { map C.kind.means crossings.now ≡ crossings_of C.kind padding (L.labels C.kind label.now) }
+    requires { map C.kind.means crossings.now
+        ≡ crossings_of C.kind padding (L.labels C.kind label.now) }
     ensures { result ≡ failing C.kind padding (L.labels C.kind label.now) }
 {
     let q = label.q();
@@ -79,7 +85,8 @@ fn check_room<C: Charge, L: Label<C>>(
     crossing_room: usize,
     ring_room: usize,
 ) -> Result<(), Fault>
-    ensures { plainly result ≡ with_room C.kind padding (L.labels C.kind label.now) crossing_room ring_room tt }
+    ensures { let d = L.labels C.kind label.now in
+        plainly result ≡ with_room C.kind padding d crossing_room ring_room tt }
 {
     Stop::ShortStrip.unless(head_count(label) <= crossing_room && 2 * label.m() - 1 <= ring_room)
 }
@@ -92,9 +99,15 @@ pub fn examine<C: Charge, L: Label<C>>(
     crossings: &mut [C],
     ring: &mut [u8],
 ) -> Result<Option<Failure>, Fault>
-    ensures answer { seen result ≡ with_length (examined C.kind padding (L.labels C.kind label.now) (length crossings.old) (length ring.old)) }
-    ensures crossings { FrontMeans C.kind (crossings_written C.kind padding (L.labels C.kind label.now) (length crossings.old) (length ring.old)) crossings.old crossings.new }
-    ensures ring { ring.new ≡ front (ring_written (examined C.kind padding (L.labels C.kind label.now) (length crossings.old) (length ring.old))) ring.old }
+    ensures answer { let d = L.labels C.kind label.now in
+        let found = examined C.kind padding d (length crossings.old) (length ring.old) in
+        seen result ≡ with_length found }
+    ensures crossings { let d = L.labels C.kind label.now in
+        let all = crossings_written C.kind padding d (length crossings.old) (length ring.old) in
+        FrontMeans C.kind all crossings.old crossings.new }
+    ensures ring { let d = L.labels C.kind label.now in
+        let found = examined C.kind padding d (length crossings.old) (length ring.old) in
+        ring.new ≡ front (ring_written found) ring.old }
     ensures law { LabelLaw C.kind padding (L.labels C.kind label.now) }
 {
     check_room(label, crossings.len(), ring.len())?;

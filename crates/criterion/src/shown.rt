@@ -49,7 +49,8 @@ fn copy_ring(ring: &[u8], strip: &mut [u8]) -> usize
 // Ring A, or ring B, which is ring A without its first cell, where ring A sums to zero.
 fn ring_of<'a>(ring: &'a [u8], zero: bool) -> &'a [u8]
     requires { 1 ≤ length ring.now }
-    ensures { result.now ≡ (if zero then take (length ring.now - 1) (drop 1 ring.now) else ring.now) }
+    ensures { let inner = take (length ring.now - 1) (drop 1 ring.now) in
+        result.now ≡ (if zero then inner else ring.now) }
 {
     if zero { &ring[1..] } else { ring }
 }
@@ -61,8 +62,10 @@ pub(crate) fn write_shown<C: Charge, L: Label<C>>(
     strip: &mut [u8],
 ) -> Result<usize, Fault>
     requires { 2 * (L.labels C.kind label.now).k - 1 ≤ length strip.old }
-    ensures answer { plainly result ≡ Ok (length (shown C.kind padding (L.labels C.kind label.now) (word (L.labels C.kind label.now).q (L.labels C.kind label.now).k code))) }
-    ensures strip { strip.new ≡ front (shown C.kind padding (L.labels C.kind label.now) (word (L.labels C.kind label.now).q (L.labels C.kind label.now).k code)) strip.old }
+    ensures answer { let d = L.labels C.kind label.now in
+        plainly result ≡ Ok (length (shown C.kind padding d (word d.q d.k code))) }
+    ensures strip { let d = L.labels C.kind label.now in
+        strip.new ≡ front (shown C.kind padding d (word d.q d.k code)) strip.old }
 {
     let m = label.m();
     let mut cells = [0u8; MOST_SHOWN];

@@ -8,6 +8,7 @@ use Rattle.automaton.specs.Meanings.{Local, Weights, Lawful, Weighed, weight, ne
 use Rattle.automaton.proofs.Rings.{length-table, get_or-table, round-table, window_turn, turns, cell_turn}
 use Rattle.automaton.proofs.Steps.{length-next, next_word, site-window}
 use Rattle.bench.specs.Laws.{KeepsTotal}
+use Rattle.bench.specs.Benches.{bench_of}
 use Rattle.bench.specs.Verdicts.{bench_checked}
 use Rattle.criterion.specs.Search.{padding, J}
 use Rattle.bench.specs.Labels.{rule_label_list}
@@ -110,7 +111,7 @@ module _ {C : Type 0} (K : Kind C) (r : Local) (d : Weights K.group.Carrier) whe
             ∙ ap (G.add own) (sym (booked_at G gain p.touched (omega (arith, k.touched_long, k.some)) gain_turn j));
       }
 
-  pub stepped_kept : Lawful r → Weighed d → bench_checked r d ≡ Ok tt → KeepsTotal K.group r d →
+  pub stepped_kept : Lawful r → Weighed d → bench_checked (bench_of K r d) ≡ Ok tt → KeepsTotal K.group r d →
       (p : Ring K.group.Carrier) → Kept p → Kept (stepped K r d p)
   stepped_kept lawful weighed passed keeps p k =
       let G = K.group in

@@ -12,6 +12,7 @@ use Rattle.automaton.proofs.Passes.{ring-letters}
 use Rattle.automaton.proofs.Rings.{length-table}
 use Rattle.automaton.proofs.Steps.{length-next}
 use Rattle.bench.specs.Laws.{KeepsTotal}
+use Rattle.bench.specs.Benches.{bench_of}
 use Rattle.bench.specs.Verdicts.{bench_checked}
 use Rattle.player.specs.Calls.{Call, Ring, Strips, Outcome, size, checked, front, charges, crossing_at, opened, put, stepped, work, answer, worked, passed_or}
 use Rattle.player.specs.Calls.Call.{opens, touches, steps, reads, closes}
@@ -33,7 +34,7 @@ front_again n xs = ap (take n) (take-append-drop n xs)
 pub ring_same : {A : Type 0} (p o : Ring A) → p.cells ≡ o.cells → p.opening ≡ o.opening → p.crossed ≡ o.crossed → p.touched ≡ o.touched → p ≡ o
 ring_same p o a b c d = λ i. record { cells = a i; opening = b i; crossed = c i; touched = d i }
 
-module _ {C : Type 0} (K : Kind C) (r : Local) (d : Weights K.group.Carrier) (lawful : Lawful r) (weighed : Weighed d) (passed : bench_checked r d ≡ Ok tt)
+module _ {C : Type 0} (K : Kind C) (r : Local) (d : Weights K.group.Carrier) (lawful : Lawful r) (weighed : Weighed d) (passed : bench_checked (bench_of K r d) ≡ Ok tt)
     (keeps : KeepsTotal K.group r d) where
   -- where a ring is open, it is kept
   abbrev Sound : Ring K.group.Carrier → Type 0

@@ -10,6 +10,7 @@ use Rattle.automaton.proofs.Steps.{before-after, length-next, site-window}
 use Rattle.criterion.specs.Balance.{Balances}
 use Rattle.criterion.specs.Search.{padding, J, failure}
 use Rattle.bench.specs.Labels.{rule_label, rule_label_list}
+use Rattle.bench.specs.Benches.{bench_of}
 use Rattle.bench.specs.Laws.{KeepsTotal, VerdictRight}
 use Rattle.bench.specs.Verdicts.{bench_checked, judge_found}
 use Rattle.bench.proofs.Gains.{label-window}
@@ -22,10 +23,10 @@ add_from-minus G x y z e =
 
 module _ {C : Type 0} (K : Kind C) (r : Local) (d : Weights K.group.Carrier) where
   -- a bench that keeps every total balances every word
-  pub balance : Lawful r → Weighed d → bench_checked r d ≡ Ok tt → KeepsTotal K.group r d →
+  pub balance : Lawful r → Weighed d → bench_checked (bench_of K r d) ≡ Ok tt → KeepsTotal K.group r d →
       Balances K.group (rule_label K.group r d) r.q (r.n + d.k - 2) (J K padding (rule_label_list K.group r d))
   balance lawful weighed passed keeps =
-      told (failure K padding (rule_label_list K.group r d)) (subst (VerdictRight K r d) roomy (verdict_right K crossing_room ring_room r d lawful weighed))
+      told (failure K padding (rule_label_list K.group r d)) (subst (VerdictRight (bench_of K r d)) roomy (verdict_right K crossing_room ring_room (bench_of K r d) lawful weighed))
     where
       crossing_room : ℕ
       crossing_room = r.q ^ (r.n + d.k - 1 - 1)
@@ -33,10 +34,10 @@ module _ {C : Type 0} (K : Kind C) (r : Local) (d : Weights K.group.Carrier) whe
       ring_room : ℕ
       ring_room = 2 * (r.n + d.k - 1) - 1
 
-      roomy : judge_found K crossing_room ring_room r d ≡ Ok (failure K padding (rule_label_list K.group r d))
+      roomy : judge_found (bench_of K r d) crossing_room ring_room ≡ Ok (failure K padding (rule_label_list K.group r d))
       roomy = grind (arith, nat_tests)
 
-      told : (f : Option (ℕ × List ℕ)) → VerdictRight K r d (Ok f) →
+      told : (f : Option (ℕ × List ℕ)) → VerdictRight (bench_of K r d) (Ok f) →
           Balances K.group (rule_label K.group r d) r.q (r.n + d.k - 2) (J K padding (rule_label_list K.group r d))
       told None right = right.1.0
       told (Some f) right = absurd (right.3 (keeps f.1 right.0 right.2))

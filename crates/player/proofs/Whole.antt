@@ -1,11 +1,11 @@
 -- What performing a script on a drafted bench promises of its verdict, crossings and log. Assumes nothing.
-use Rattle.std.proofs.Common.{◌≡◌, ℕ, ◌+◌, ◌-◌, ◌*◌, ◌^◌, ◌<◌, Bool, true, false, List, [], ◌∷◌, map, length, get_or, take, drop, Some, None, Ok, Err, Option, Result, nat_le, sym, refl, ap, ◌∙◌, subst, ap₂, take_at, arith, length-take-le, length-drop}
+use Rattle.std.proofs.Common.{◌≡◌, ℕ, ◌+◌, ◌-◌, ◌*◌, ◌^◌, ◌<◌, Bool, true, false, List, [], ◌∷◌, map, length, get_or, take, drop, Some, None, Ok, Err, Option, Result, MatchBool, nat_le, sym, refl, ap, ◌∙◌, subst, ap₂, take_at, arith, length-take-le, length-drop}
 use Rattle.std.specs.Option.{option_map}
 use Rattle.std.proofs.lemmas.List.{get_or_append_left}
 use Rattle.fault.specs.declared.Stop.TheVariants.{ShortStrip}
 use Rattle.fault.specs.Answers.{and_then, front}
 use Rattle.fault.specs.Checks.{tested}
-use Rattle.fault.specs.Refusals.{Refusal}
+use Rattle.fault.specs.Refusals.{Refusal, refused_at}
 use Rattle.charge.specs.Groups.{Group, Kind, minus}
 use Rattle.automaton.specs.Words.{Word, code, word, repeated}
 use Rattle.automaton.specs.Meanings.{Local, Weights, Lawful, Weighed, next, total}
@@ -16,11 +16,16 @@ use Rattle.criterion.specs.Balance.{OnlyTable}
 use Rattle.criterion.specs.Search.{padding, J, crossings}
 use Rattle.criterion.specs.Strips.{FrontMeans}
 use Rattle.bench.specs.Labels.{rule_label, rule_label_list}
+use Rattle.bench.specs.declared.state.Refused.{Refused}
+use Rattle.bench.specs.declared.state.Verdict.{Verdict}
+use Rattle.bench.specs.Answers.{judge_said}
+use Rattle.bench.specs.Benches.{Bench, bench_of, total_before, total_after, crossings_of}
+use Rattle.bench.specs.Promises.{Judges}
 use Rattle.bench.specs.Laws.{Apart, VerdictRight}
-use Rattle.bench.specs.Verdicts.{Judgement, bench_checked, broken, verdict_of}
+use Rattle.bench.specs.Verdicts.{Judgement, Found, Lent, Leaves, judge_found, bench_checked, broken, verdict_of}
 use Rattle.player.specs.Calls.{Call, Strips}
 use Rattle.player.specs.Scripts.{played}
-use Rattle.player.specs.Whole.{with_answers, VerdictTrue, CrossingsTrue, LogTrue}
+use Rattle.player.specs.Whole.{JudgedFor, with_answers, VerdictTrue, CrossingsTrue, LogTrue}
 use Rattle.player.proofs.Books.{front-means}
 use Rattle.player.proofs.Logs.{logs_true}
 use Rattle.player.proofs.Scripts.{scripts_logged}
@@ -29,15 +34,24 @@ use Rattle.player.proofs.Scripts.{scripts_logged}
 abbrev pub verdict_on : {A : Type 0} → (List ℕ → A) → (List ℕ → A) → Result (Option (ℕ × List ℕ)) Refusal → Result (Judgement A) Refusal
 verdict_on now later found = and_then found (λ f. Ok (verdict_of (option_map (broken now later) f)))
 
--- room for answers is tested before anything is found
-pub answers-first : {A : Type 0} (now later : List ℕ → A) (n room : ℕ) (found : Result (Option (ℕ × List ℕ)) Refusal) →
-    with_answers n room (verdict_on now later found) ≡ verdict_on now later (with_answers n room found)
-answers-first now later n room found = go (nat_le n room)
+-- what is found where there is room for the answers, what is said and what is left
+pub record Told {C : Type 0} {K : Kind C} (b : Bench K) (found : Found) (said : Result (Judgement K.group.Carrier) Refusal) (old new : Lent C) : Type 0 where
+  pub answer : said ≡ verdict_on (total_before b) (total_after b) found
+  pub left : Leaves K found (crossings_of b) old new
+  pub right : VerdictRight b found
+
+pub judged_for : {C H B S : Type 0} {K : Kind C} (n room : ℕ) (b : Bench K) (old : Lent C) (result : Result (Verdict C H B) (Refused S)) (new : Lent C) → JudgedFor n room b old result new →
+    Told b (with_answers n room (judge_found b (length old.crossings) (length old.ring))) (judge_said K result) old new
+judged_for {C} {H} {B} {S} {K} n room b old result new judged = go (nat_le n room) judged
   where
-    go : (b : Bool) → and_then (tested ((b, ShortStrip) ∷ [])) (λ _. verdict_on now later found)
-        ≡ verdict_on now later (and_then (tested ((b, ShortStrip) ∷ [])) (λ _. found))
-    go true = refl
-    go false = refl
+    go : (t : Bool) → MatchBool t (Judges b old result new) ((judge_said K result ≡ Err (refused_at ShortStrip 0)) × (new ≡ old)) →
+        Told b (and_then (tested ((t, ShortStrip) ∷ [])) (λ _. judge_found b (length old.crossings) (length old.ring))) (judge_said K result) old new
+    go true j = record { answer = j.answer; left = j.left; right = j.right }
+    go false j = record {
+      answer = j.0;
+      left = record { crossings = (refl, ap (λ s. s.crossings) j.1); ring = ap (λ s. s.ring) j.1 };
+      right = tt;
+    }
 
 -- a table of crossings that is the only one, by another that has the same at each word
 only_same : (G : Group) (D : List ℕ → G.Carrier) (z q r : ℕ) (J T : List ℕ → G.Carrier) → z < q → ((v : List ℕ) → Word q r v → T v ≡ J v) →
@@ -55,8 +69,8 @@ module _ {C : Type 0} (K : Kind C) (r : Local) (d : Weights K.group.Carrier) (la
   abbrev verdict : Result (Option (ℕ × List ℕ)) Refusal → Result (Judgement K.group.Carrier) Refusal
   verdict = verdict_on (total K.group d) (λ c. total K.group d (next r c))
 
-  pub verdict_true : (found : Result (Option (ℕ × List ℕ)) Refusal) (ring old : List ℕ) → VerdictRight K r d found → ring ≡ front (ring_written found) old →
-      VerdictTrue K r d (verdict found) ring
+  pub verdict_true : (found : Result (Option (ℕ × List ℕ)) Refusal) (ring old : List ℕ) → VerdictRight (bench_of K r d) found → ring ≡ front (ring_written found) old →
+      VerdictTrue (bench_of K r d) (verdict found) ring
   verdict_true (Ok None) ring old right e = right.0
   verdict_true (Ok (Some f)) ring old right e =
       subst (Apart r.q (2 * (r.n + d.k) - 3) (λ c. total K.group d (next r c)) (total K.group d))
@@ -81,8 +95,8 @@ module _ {C : Type 0} (K : Kind C) (r : Local) (d : Weights K.group.Carrier) (la
       ∙ get_or-table (r.q ^ m) at K.group.zero (code r.q v) inside
       ∙ ap (J K padding label) (word-code r.q (omega (arith, sizes.0)) m v is')
 
-  pub crossings_true : (found : Result (Option (ℕ × List ℕ)) Refusal) (old new : List C) → VerdictRight K r d found →
-      FrontMeans K (unless_refused found (crossings K padding (rule_label_list K.group r d))) old new → CrossingsTrue K r d (verdict found) (map K.means new)
+  pub crossings_true : (found : Result (Option (ℕ × List ℕ)) Refusal) (old new : List C) → VerdictRight (bench_of K r d) found →
+      FrontMeans K (unless_refused found (crossings K padding (rule_label_list K.group r d))) old new → CrossingsTrue (bench_of K r d) (verdict found) (map K.means new)
   crossings_true (Ok None) old new right fronts =
       let sizes = lawful.sizes in
       only_same K.group (rule_label K.group r d) padding r.q (r.n + d.k - 2) (J K padding (rule_label_list K.group r d)) (λ v. get_or (map K.means new) (code r.q v) K.group.zero)
@@ -90,8 +104,8 @@ module _ {C : Type 0} (K : Kind C) (r : Local) (d : Weights K.group.Carrier) (la
   crossings_true (Ok (Some f)) old new right fronts = tt
   crossings_true (Err f) old new right fronts = tt
 
-  pub log_true : Weighed d → bench_checked r d ≡ Ok tt → (found : Result (Option (ℕ × List ℕ)) Refusal) (script : List Call) (handed : Strips K.group.Carrier) →
-      VerdictRight K r d found → LogTrue K r d (verdict found) script handed
+  pub log_true : Weighed d → bench_checked (bench_of K r d) ≡ Ok tt → (found : Result (Option (ℕ × List ℕ)) Refusal) (script : List Call) (handed : Strips K.group.Carrier) →
+      VerdictRight (bench_of K r d) found → LogTrue (bench_of K r d) (verdict found) script handed
   log_true weighed passed (Ok None) script handed right =
       let whole = scripts_logged K r d handed script in
       (whole, logs_true K r d lawful weighed passed right.0 (played K r d handed script).log whole)

@@ -1,5 +1,6 @@
 -- What calls, strips and answers mean. Assumes nothing.
-use Rattle.std.specs.Prelude.{◌≡◌, ℕ, List, map, drop, Ok, Err, Result}
+use Rattle.std.specs.Prelude.{◌≡◌, ℕ, List, length, map, take, drop, Ok, Err, Option, Result}
+use Rattle.std.specs.Option.{option_map}
 use Rattle.fault.specs.declared.Fault.{Fault}
 use Rattle.fault.specs.Refusals.{refusal}
 use Rattle.charge.specs.Groups.{Kind}
@@ -43,6 +44,10 @@ module _ {C : Type 0} (K : Kind C) where
   answered Done = done
   answered (Read_as m) = reading_means m
   answered (Refused_by f) = refused (refusal f)
+
+  -- the answers to the calls of a script
+  abbrev pub answers_to : {X : Type 0} → List X → List (Option (Answered C)) → List (Option (Answer K.group.Carrier))
+  answers_to script answers = map (option_map answered) (take (length script) answers)
 
   -- what the calls answer
   abbrev pub read_said : Result (Reading C) Fault → Answer K.group.Carrier

@@ -6,3 +6,5 @@ pub mod Answers
 pub mod Scripts
 pub mod Whole
 pub mod Near
+pub mod Promises
+pub mod Obeying

@@ -3,6 +3,7 @@ use Rattle.std.specs.Prelude.{◌≡◌, ℕ, ◌+◌, ◌≤◌, Bool, true, Li
 use Rattle.charge.specs.Groups.{Group, Kind, minus, sum_over}
 use Rattle.automaton.specs.Words.{round}
 use Rattle.automaton.specs.Meanings.{Local, Weights, Lawful, Weighed}
+use Rattle.bench.specs.Benches.{bench_of}
 use Rattle.bench.specs.Laws.{KeepsTotal}
 use Rattle.bench.specs.Verdicts.{bench_checked}
 use Rattle.player.specs.Calls.{Call, Answer, Ring, Strips, Outcome, size, checked, passed_or, front, charges, work, answer, Does}
@@ -138,5 +139,5 @@ module _ {C : Type 0} (K : Kind C) (r : Local) (d : Weights K.group.Carrier) whe
 
 -- from the making of a bench that holds, on every line of a log without gaps
 abbrev pub LogsTrue : {C : Type 0} → Kind C → Type 0
-LogsTrue K = (r : Local) (d : Weights K.group.Carrier) → Lawful r → Weighed d → bench_checked r d ≡ Ok tt → KeepsTotal K.group r d →
+LogsTrue K = (r : Local) (d : Weights K.group.Carrier) → Lawful r → Weighed d → bench_checked (bench_of K r d) ≡ Ok tt → KeepsTotal K.group r d →
     (log : _) → WithoutGaps K r d log → OnEveryLine (LineTrue K r d) log

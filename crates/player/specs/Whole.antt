@@ -1,19 +1,22 @@
 -- What performing a script on a drafted bench promises. Assumes nothing.
-use Rattle.std.specs.Prelude.{◌≡◌, ℕ, ◌+◌, ◌-◌, ◌*◌, List, ◌∷◌, [], length, take, Ok, Err, Option, Result, nat_le, slice_index_or}
+use Rattle.std.specs.Prelude.{◌≡◌, ℕ, MatchBool, ◌+◌, ◌-◌, ◌*◌, List, ◌∷◌, [], length, take, Ok, Err, Option, Result, nat_le, slice_index_or}
 use Rattle.fault.specs.declared.Stop.TheVariants.{ShortStrip}
 use Rattle.fault.specs.Answers.{and_then}
 use Rattle.fault.specs.Checks.{tested}
-use Rattle.fault.specs.Refusals.{Refusal}
+use Rattle.fault.specs.Refusals.{Refusal, refused_at}
 use Rattle.charge.specs.Groups.{Kind}
 use Rattle.automaton.specs.Words.{code}
-use Rattle.automaton.specs.Meanings.{Local, Weights, next, total}
 use Rattle.criterion.specs.Balance.{OnlyTable}
 use Rattle.criterion.specs.Search.{padding}
 use Rattle.bench.specs.declared.state.Verdict.{Verdict}
 use Rattle.bench.specs.declared.state.Verdict.TheVariants.{Holds, Breaks}
+use Rattle.bench.specs.declared.state.Refused.{Refused}
 use Rattle.bench.specs.Labels.{rule_label}
+use Rattle.bench.specs.Answers.{judge_said}
+use Rattle.bench.specs.Benches.{Bench, total_before, total_after}
+use Rattle.bench.specs.Promises.{Judges}
 use Rattle.bench.specs.Laws.{KeepsTotal, Apart}
-use Rattle.bench.specs.Verdicts.{Judgement}
+use Rattle.bench.specs.Verdicts.{Judgement, Lent}
 use Rattle.bench.specs.Verdicts.Judgement.{holds, breaks}
 use Rattle.player.specs.declared.player.Player.{Player}
 use Rattle.player.specs.Answers.{open_cells}
@@ -25,35 +28,40 @@ use Rattle.player.specs.Scripts.{played}
 abbrev pub with_answers : {X : Type 0} → ℕ → ℕ → Result X Refusal → Result X Refusal
 with_answers n room x = and_then (tested ((nat_le n room, ShortStrip) ∷ [])) (λ _. x)
 
-module _ {C : Type 0} (K : Kind C) (r : Local) (d : Weights K.group.Carrier) where
+-- Judging, where there is room for the answers to a script of n calls; else the call is refused, and leaves both strips.
+abbrev pub JudgedFor : {C H B S : Type 0} {K : Kind C} → ℕ → ℕ → Bench K → Lent C → Result (Verdict C H B) (Refused S) → Lent C → Type 0
+JudgedFor {C} {H} {B} {S} {K} n room b old result new =
+    MatchBool (nat_le n room) (Judges b old result new) ((judge_said K result ≡ Err (refused_at ShortStrip 0)) × (new ≡ old))
+
+module _ {C : Type 0} {K : Kind C} (b : Bench K) where
   -- Under "holds" no ring of any length changes its total in a step; otherwise the ring shown changes its total, and has
   -- at most 2 (n + k) - 3 cells. So the answer is "holds" exactly when no ring changes its total.
   abbrev pub VerdictTrue : Result (Judgement K.group.Carrier) Refusal → List ℕ → Type 0
-  VerdictTrue (Ok holds) ring = KeepsTotal K.group r d
-  VerdictTrue (Ok (breaks b)) ring = Apart r.q (2 * (r.n + d.k) - 3) (λ c. total K.group d (next r c)) (total K.group d) (take b.len ring)
+  VerdictTrue (Ok holds) ring = KeepsTotal K.group b.rule b.density
+  VerdictTrue (Ok (breaks f)) ring = Apart b.rule.q (2 * (b.rule.n + b.density.k) - 3) (total_after b) (total_before b) (take f.len ring)
   VerdictTrue (Err f) ring = Unit {0}
 
   -- under "holds" the strip of crossings, read by codes, balances every word and is zero on the word of zeros, and every
   -- table that does both equals it at each word
   abbrev pub CrossingsTrue : Result (Judgement K.group.Carrier) Refusal → List K.group.Carrier → Type 0
   CrossingsTrue (Ok holds) strip =
-      OnlyTable K.group (rule_label K.group r d) padding r.q (r.n + d.k - 2) (λ v. slice_index_or strip (code r.q v) K.group.zero)
-  CrossingsTrue (Ok (breaks b)) strip = Unit {0}
+      OnlyTable K.group (rule_label K.group b.rule b.density) padding b.rule.q (b.rule.n + b.density.k - 2) (λ v. slice_index_or strip (code b.rule.q v) K.group.zero)
+  CrossingsTrue (Ok (breaks f)) strip = Unit {0}
   CrossingsTrue (Err f) strip = Unit {0}
 
   -- under "holds" the strips, the answers and how many cells the open ring has are those of the script's log
   abbrev pub Plays : Result (Judgement K.group.Carrier) Refusal → List Call → Strips K.group.Carrier → Strips K.group.Carrier →
       List (Option (Answer K.group.Carrier)) → ℕ → Type 0
   Plays (Ok holds) script handed left said cells =
-      let p = played K r d handed script in (left ≡ p.strips) × (said ≡ p.said) × (cells ≡ length (standing p.log).cells)
-  Plays (Ok (breaks b)) script handed left said cells = Unit {0}
+      let p = played K b.rule b.density handed script in (left ≡ p.strips) × (said ≡ p.said) × (cells ≡ length (standing p.log).cells)
+  Plays (Ok (breaks f)) script handed left said cells = Unit {0}
   Plays (Err f) script handed left said cells = Unit {0}
 
   -- and that log has no gaps and is true on every line
   abbrev pub LogTrue : Result (Judgement K.group.Carrier) Refusal → List Call → Strips K.group.Carrier → Type 0
   LogTrue (Ok holds) script handed =
-      let log = (played K r d handed script).log in WithoutGaps K r d log × OnEveryLine (LineTrue K r d) log
-  LogTrue (Ok (breaks b)) script handed = Unit {0}
+      let log = (played K b.rule b.density handed script).log in WithoutGaps K b.rule b.density log × OnEveryLine (LineTrue K b.rule b.density) log
+  LogTrue (Ok (breaks f)) script handed = Unit {0}
   LogTrue (Err f) script handed = Unit {0}
 
   -- both of these

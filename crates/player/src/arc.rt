@@ -1,5 +1,5 @@
 // The meters of an arc of sites.
-ghost use Rattle.std.specs.Prelude.{◌≡◌, ◌+◌, ◌%◌, ◌<◌, ◌≤◌, length, Decides};
+ghost use Rattle.std.specs.Prelude.{◌≡◌, ◌+◌, ◌%◌, ◌<◌, ◌≤◌, ◌↔◌, length, IsTrue};
 ghost use Rattle.std.specs.Option.{option_map};
 ghost use Rattle.player.specs.Arcs.{arc_of, arc_means};
 ghost use Rattle.player.specs.Logs.{AddsUp};
@@ -60,7 +60,7 @@ impl<C: Charge> ArcReading<C> {
 
     // Whether the charge now is that at opening, with what crossed in, less what crossed out, and what was touched.
     pub fn adds_up(self) -> bool
-        ensures { Decides result (AddsUp C.kind.group (arc_means C.kind self)) }
+        ensures { IsTrue result ↔ AddsUp C.kind.group (arc_means C.kind self) }
     {
         let moved = self.opening.plus(difference(self.into, self.out));
         self.now.same(moved.plus(self.touched))

@@ -12,9 +12,11 @@ use charge::Charge;
 use fault::Fault;
 
 impl<C: Charge, R: Rule, D: Density<C>> Playing<C, R, D> {
+    ghost use Rattle.player.specs.Promises.{open_ring};
+
     // The alphabet size.
     pub(crate) fn q(&self) -> usize
-        ensures { result ≡ (R.meaning self.now.bench.parts.rule).q }
+        ensures { result ≡ (open_ring self.now).bench.rule.q }
     {
         self.bench.rule().q()
     }
@@ -22,7 +24,9 @@ impl<C: Charge, R: Rule, D: Density<C>> Playing<C, R, D> {
     // The refusal of the first cell that has no letter.
     pub(crate) fn check_letters(&self, cells: &[u8]) -> Result<(), Fault>
         requires { self.now.len ≤ length cells.now }
-        ensures { plainly result ≡ each_fits (λ a. nat_lt a (R.meaning self.now.bench.parts.rule).q) BadLetter 0 (take self.now.len cells.now) }
+        ensures { let ring = open_ring self.now in
+            plainly result
+            ≡ each_fits (λ a. nat_lt a ring.bench.rule.q) BadLetter 0 (take ring.len cells.now) }
     {
         Ring::under(self.bench.rule(), self.len, &cells[..self.len])?;
         Ok(())
@@ -31,7 +35,8 @@ impl<C: Charge, R: Rule, D: Density<C>> Playing<C, R, D> {
     // The sites of the ring in these cells.
     pub(crate) fn sites<'b, 'r>(&'b self, cells: &'r [u8]) -> Sites<'b, 'r, C, R, D>
         requires room { self.now.len ≤ length cells.now }
-        requires letters { Letters (R.meaning self.now.bench.parts.rule).q (take self.now.len cells.now) }
+        requires letters { let ring = open_ring self.now in
+            Letters ring.bench.rule.q (take ring.len cells.now) }
         ensures bench { result.bench.now ≡ self.now.bench }
         ensures ring { result.ring.cells.now ≡ take self.now.len cells.now }
     {

@@ -4,6 +4,7 @@ ghost use Rattle.automaton.specs.Words.{table};
 ghost use Rattle.criterion.specs.Strips.{FrontMeans};
 ghost use Rattle.player.specs.Calls.{booked};
 ghost use Rattle.player.specs.Near.{back, up_to};
+ghost use Rattle.player.specs.Promises.{Books};
 
 use crate::sites::SiteCharges;
 use charge::Charge;
@@ -33,7 +34,8 @@ impl<'a, C: Charge> Ledger<'a, C> {
 
     // The charge of site i, and zero past the last site.
     pub fn at(&mut self, i: usize) -> C
-        ensures answer { C.kind.means result ≡ slice_index_or (map C.kind.means self.old.sites.now) i C.kind.group.zero }
+        ensures answer { let old = map C.kind.means self.old.sites.now in
+            C.kind.means result ≡ slice_index_or old i C.kind.group.zero }
         ensures kept { self.new ≡ self.old }
     {
         if i < self.sites.len() {
@@ -56,7 +58,9 @@ impl<'a, C: Charge> Ledger<'a, C> {
 
     // The charge of site i and another.
     fn sum_at(&mut self, i: usize, charge: C) -> C
-        ensures answer { C.kind.means result ≡ C.kind.group.add (slice_index_or (map C.kind.means self.old.sites.now) i C.kind.group.zero) (C.kind.means charge) }
+        ensures answer { let old = map C.kind.means self.old.sites.now in
+            let own = slice_index_or old i C.kind.group.zero in
+            C.kind.means result ≡ C.kind.group.add own (C.kind.means charge) }
         ensures kept { self.new ≡ self.old }
     {
         self.at(i).plus(charge)
@@ -64,8 +68,12 @@ impl<'a, C: Charge> Ledger<'a, C> {
 
     // Adds to the charge of site i. Past the last site nothing is written.
     pub fn add(&mut self, i: usize, charge: C)
-        ensures sites { map C.kind.means self.new.sites.now ≡ slice_set (map C.kind.means self.old.sites.now) i (C.kind.group.add (slice_index_or (map C.kind.means self.old.sites.now) i C.kind.group.zero) (C.kind.means charge)) }
-        ensures others { (take i self.new.sites.now ≡ take i self.old.sites.now) × (drop (i + 1) self.new.sites.now ≡ drop (i + 1) self.old.sites.now) }
+        ensures sites { let old = map C.kind.means self.old.sites.now in
+            let own = slice_index_or old i C.kind.group.zero in
+            map C.kind.means self.new.sites.now
+            ≡ slice_set old i (C.kind.group.add own (C.kind.means charge)) }
+        ensures others { (take i self.new.sites.now ≡ take i self.old.sites.now)
+            × (drop (i + 1) self.new.sites.now ≡ drop (i + 1) self.old.sites.now) }
         ensures same { self.new.sites.ghost_name ≡ self.old.sites.ghost_name }
     {
         let sum = self.sum_at(i, charge);
@@ -74,7 +82,8 @@ impl<'a, C: Charge> Ledger<'a, C> {
 
     // Writes each site's charge.
     pub(crate) fn fill<S: SiteCharges<C>>(&mut self, charges: &S)
-        ensures sites { map C.kind.means self.new.sites.now ≡ table (length self.old.sites.now) (S.charges C.kind charges.now) }
+        ensures sites { map C.kind.means self.new.sites.now
+            ≡ table (length self.old.sites.now) (S.charges C.kind charges.now) }
         ensures same { self.new.sites.ghost_name ≡ self.old.sites.ghost_name }
     {
         for i in 0..self.sites.len() {
@@ -84,7 +93,9 @@ impl<'a, C: Charge> Ledger<'a, C> {
 
     // Adds to each site's charge.
     pub(crate) fn book<S: SiteCharges<C>>(&mut self, charges: &S)
-        ensures sites { map C.kind.means self.new.sites.now ≡ booked C.kind.group (S.charges C.kind charges.now) (map C.kind.means self.old.sites.now) }
+        ensures sites { let old = map C.kind.means self.old.sites.now in
+            map C.kind.means self.new.sites.now
+            ≡ booked C.kind.group (S.charges C.kind charges.now) old }
         ensures same { self.new.sites.ghost_name ≡ self.old.sites.ghost_name }
     {
         for i in 0..self.sites.len() {
@@ -95,7 +106,10 @@ impl<'a, C: Charge> Ledger<'a, C> {
     // Adds to the charges of the `count` sites up to site i, going round.
     fn book_back<S: SiteCharges<C>>(&mut self, i: usize, count: usize, charges: &S)
         requires { (i < length self.old.sites.now) × (count ≤ length self.old.sites.now) }
-        ensures sites { map C.kind.means self.new.sites.now ≡ booked C.kind.group (up_to C.kind.group (length self.old.sites.now) i count (S.charges C.kind charges.now)) (map C.kind.means self.old.sites.now) }
+        ensures sites { let old = map C.kind.means self.old.sites.now in
+            let len = length self.old.sites.now in
+            let near = up_to C.kind.group len i count (S.charges C.kind charges.now) in
+            map C.kind.means self.new.sites.now ≡ booked C.kind.group near old }
         ensures same { self.new.sites.ghost_name ≡ self.old.sites.ghost_name }
     {
         let len = self.sites.len();
@@ -124,7 +138,8 @@ fn fill_strip<C: Charge, S: SiteCharges<C>>(strip: &mut [C], charges: &S)
 
 // Adds to each site's charge.
 fn book_strip<C: Charge, S: SiteCharges<C>>(strip: &mut [C], charges: &S)
-    ensures { map C.kind.means strip.new ≡ booked C.kind.group (S.charges C.kind charges.now) (map C.kind.means strip.old) }
+    ensures { map C.kind.means strip.new
+        ≡ booked C.kind.group (S.charges C.kind charges.now) (map C.kind.means strip.old) }
 {
     Ledger::new(strip).book(charges);
 }
@@ -137,14 +152,17 @@ fn book_strip_back<C: Charge, S: SiteCharges<C>>(
     charges: &S,
 )
     requires { (i < length strip.old) × (count ≤ length strip.old) }
-    ensures { map C.kind.means strip.new ≡ booked C.kind.group (up_to C.kind.group (length strip.old) i count (S.charges C.kind charges.now)) (map C.kind.means strip.old) }
+    ensures { let len = length strip.old in
+        let near = up_to C.kind.group len i count (S.charges C.kind charges.now) in
+        map C.kind.means strip.new ≡ booked C.kind.group near (map C.kind.means strip.old) }
 {
     Ledger::new(strip).book_back(i, count, charges);
 }
 
 // The charge of site i, and zero past the last site.
 pub(crate) fn read_strip<C: Charge>(strip: &mut [C], i: usize) -> C
-    ensures answer { C.kind.means result ≡ slice_index_or (map C.kind.means strip.old) i C.kind.group.zero }
+    ensures answer { C.kind.means result
+        ≡ slice_index_or (map C.kind.means strip.old) i C.kind.group.zero }
     ensures kept { strip.new ≡ strip.old }
 {
     Ledger::new(strip).at(i)
@@ -161,7 +179,7 @@ pub(crate) fn fill_front<C: Charge, S: SiteCharges<C>>(len: usize, strip: &mut [
 // Adds to the charges of the first `len` sites.
 pub(crate) fn book_front<C: Charge, S: SiteCharges<C>>(len: usize, strip: &mut [C], charges: &S)
     requires { len ≤ length strip.old }
-    ensures { FrontMeans C.kind (booked C.kind.group (S.charges C.kind charges.now) (take len (map C.kind.means strip.old))) strip.old strip.new }
+    ensures { Books C.kind len (S.charges C.kind charges.now) strip.old strip.new }
 {
     book_strip(&mut strip[..len], charges);
 }
@@ -175,7 +193,8 @@ pub(crate) fn book_front_back<C: Charge, S: SiteCharges<C>>(
     charges: &S,
 )
     requires { (len ≤ length strip.old) × (i < len) × (count ≤ len) }
-    ensures { FrontMeans C.kind (booked C.kind.group (up_to C.kind.group len i count (S.charges C.kind charges.now)) (take len (map C.kind.means strip.old))) strip.old strip.new }
+    ensures { let near = up_to C.kind.group len i count (S.charges C.kind charges.now) in
+        Books C.kind len near strip.old strip.new }
 {
     book_strip_back(&mut strip[..len], i, count, charges);
 }

@@ -1,12 +1,12 @@
 // Opening a ring on a bench that holds.
-ghost use Rattle.std.specs.Prelude.{◌≡◌, ◌≤◌, [], length, Ok, Err, MatchResult};
+ghost use Rattle.std.specs.Prelude.{◌≡◌, ◌≤◌, length, Ok, Err, MatchResult};
 ghost use Rattle.fault.specs.Answers.{front};
 ghost use Rattle.fault.specs.Refusals.{refusal};
 ghost use Rattle.automaton.specs.Words.{table};
 ghost use Rattle.criterion.specs.Strips.{FrontMeans};
-ghost use Rattle.player.specs.Calls.{charges, checked, Does};
 ghost use Rattle.player.specs.Calls.Call.{opens};
-ghost use Rattle.player.specs.Answers.{strips, open_said, Stays};
+ghost use Rattle.player.specs.Answers.{open_said, Stays};
+ghost use Rattle.player.specs.Promises.{ring_on, ring_len, holding_under, sites_ring, site_charges, meter_strips, tested_by, DoesOn};
 
 use crate::ledger::{book_front, fill_front};
 use crate::playing::Playing;
@@ -25,7 +25,12 @@ fn check_open<'r, C: Charge, R: Rule, D: Density<C>>(
     crossed: &[C],
     touched: &[C],
 ) -> Result<Ring<'r>, Fault>
-    ensures { MatchResult result (λ r. (checked (R.meaning bench.now.parts.rule).q (length ring.now) (opens ring.now) (strips C.kind cells.now [] opening.now crossed.now touched.now) ≡ Ok tt) × (r.cells.now ≡ ring.now) × (r.q ≡ (R.meaning bench.now.parts.rule).q)) (λ f. checked (R.meaning bench.now.parts.rule).q (length ring.now) (opens ring.now) (strips C.kind cells.now [] opening.now crossed.now touched.now) ≡ Err (refusal f)) }
+    ensures { let on = ring_on bench.now (length ring.now) in
+        let tested = tested_by on (opens ring.now)
+        (meter_strips cells.now opening.now crossed.now touched.now) in
+        MatchResult result
+        (λ r. (tested ≡ Ok tt) × (r.cells.now ≡ ring.now) × (r.q ≡ on.bench.rule.q))
+        (λ f. tested ≡ Err (refusal f)) }
 {
     let room = cells
         .len()
@@ -43,11 +48,17 @@ fn open_on<C: Charge, R: Rule, D: Density<C>>(
     crossed: &mut [C],
     touched: &mut [C],
 )
-    requires room { (length sites.now.ring.cells.now ≤ length cells.old) × (length sites.now.ring.cells.now ≤ length opening.old) × (length sites.now.ring.cells.now ≤ length crossed.old) × (length sites.now.ring.cells.now ≤ length touched.old) }
+    requires room { let n = length sites.now.ring.cells.now in
+        (n ≤ length cells.old) × (n ≤ length opening.old) × (n ≤ length crossed.old)
+        × (n ≤ length touched.old) }
     ensures cells { cells.new ≡ front sites.now.ring.cells.now cells.old }
-    ensures opening { FrontMeans C.kind (table (length sites.now.ring.cells.now) (charges C.kind (R.meaning sites.now.bench.now.parts.rule) (D.weights C.kind sites.now.bench.now.parts.density) sites.now.ring.cells.now)) opening.old opening.new }
-    ensures crossed { FrontMeans C.kind (table (length sites.now.ring.cells.now) (λ _. C.kind.group.zero)) crossed.old crossed.new }
-    ensures touched { FrontMeans C.kind (table (length sites.now.ring.cells.now) (λ _. C.kind.group.zero)) touched.old touched.new }
+    ensures opening { let ring = sites_ring sites.now in
+        let all = table ring.len (site_charges ring.bench sites.now.ring.cells.now) in
+        FrontMeans C.kind all opening.old opening.new }
+    ensures crossed { FrontMeans C.kind (table (length sites.now.ring.cells.now)
+        (λ _. C.kind.group.zero)) crossed.old crossed.new }
+    ensures touched { FrontMeans C.kind (table (length sites.now.ring.cells.now)
+        (λ _. C.kind.group.zero)) touched.old touched.new }
 {
     let ring = sites.ring.cells;
     cells[..ring.len()].copy_from_slice(ring);
@@ -66,9 +77,15 @@ impl<C: Charge, R: Rule, D: Density<C>> Playing<C, R, D> {
         crossed: &mut [C],
         touched: &mut [C],
     ) -> Result<Playing<C, R, D>, Refused<Holding<C, R, D>>>
-        ensures promise { Does C.kind (R.meaning bench.parts.rule) (D.weights C.kind bench.parts.density) (length ring.now) (opens ring.now) (strips C.kind cells.old [] opening.old crossed.old touched.old) (open_said C.kind result) (strips C.kind cells.new [] opening.new crossed.new touched.new) }
-        ensures past { Stays result (length ring.now) opening.old opening.new × Stays result (length ring.now) crossed.old crossed.new × Stays result (length ring.now) touched.old touched.new }
-        ensures bench { MatchResult result (λ playing. (playing.bench ≡ bench) × (playing.len ≡ length ring.now)) (λ refused. refused.state ≡ bench) }
+        ensures promise { DoesOn (ring_on bench (length ring.now)) (opens ring.now)
+            (meter_strips cells.old opening.old crossed.old touched.old) (open_said C.kind result)
+            (meter_strips cells.new opening.new crossed.new touched.new) }
+        ensures past { Stays result (length ring.now) opening.old opening.new
+            × Stays result (length ring.now) crossed.old crossed.new
+            × Stays result (length ring.now) touched.old touched.new }
+        ensures bench { MatchResult result
+            (λ p. (holding_under p ≡ bench) × (ring_len p ≡ length ring.now))
+            (λ e. e.state ≡ bench) }
     {
         match check_open(&bench, ring, cells, opening, crossed, touched) {
             Ok(ring) => {

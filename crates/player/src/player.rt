@@ -1,9 +1,11 @@
 // A bench that holds, as calls move it from state to state.
-ghost use Rattle.std.specs.Prelude.{◌≡◌, ◌≤◌, map, length, take, drop};
+ghost use Rattle.std.specs.Prelude.{◌≡◌, ◌≤◌, map, length, drop};
 ghost use Rattle.std.specs.Option.{option_map};
-ghost use Rattle.player.specs.Answers.{strips, asked, answered, done_said, read_said, open_cells, of_player};
+ghost use Rattle.bench.specs.States.{holding_bench};
+ghost use Rattle.player.specs.Answers.{asked, answered, answers_to, done_said, read_said, open_cells};
 ghost use Rattle.player.specs.Logs.{standing};
-ghost use Rattle.player.specs.Scripts.{said_to, left_by, cells_after, played};
+ghost use Rattle.player.specs.Promises.{all_strips, meant, ring_on, ring_len, open_ring, player_ring, player_holding, holding_under};
+ghost use Rattle.player.specs.Obeying.{said_on, left_on, cells_on, played_on};
 
 use crate::call::{Answer, Call};
 use crate::meters::Reading;
@@ -51,10 +53,16 @@ fn obey_idle<C: Charge, R: Rule, D: Density<C>>(
     crossed: &mut [C],
     touched: &mut [C],
 ) -> (PlayerOf<C, R, D>, Option<Answer<C>>)
-    ensures said { option_map (answered C.kind) result.1 ≡ said_to C.kind (R.meaning bench.parts.rule) (D.weights C.kind bench.parts.density) 0 (asked call.entry) (strips C.kind cells.old spare.now opening.old crossed.old touched.old) }
-    ensures left { strips C.kind cells.new spare.now opening.new crossed.new touched.new ≡ left_by C.kind (R.meaning bench.parts.rule) (D.weights C.kind bench.parts.density) 0 (asked call.entry) (strips C.kind cells.old spare.now opening.old crossed.old touched.old) }
-    ensures cells { open_cells (λ p. p.len) result.0 ≡ cells_after C.kind (R.meaning bench.parts.rule) (D.weights C.kind bench.parts.density) 0 (asked call.entry) (strips C.kind cells.old spare.now opening.old crossed.old touched.old) }
-    ensures bench { of_player (λ h. h) (λ p. p.bench) result.0 ≡ bench }
+    ensures said { option_map (answered C.kind) result.1
+        ≡ said_on (ring_on bench 0) (asked call.entry)
+        (all_strips cells.old spare.now opening.old crossed.old touched.old) }
+    ensures left { meant C.kind (all_strips cells.new spare.now opening.new crossed.new touched.new)
+        ≡ left_on (ring_on bench 0) (asked call.entry)
+        (all_strips cells.old spare.now opening.old crossed.old touched.old) }
+    ensures cells { open_cells ring_len result.0
+        ≡ cells_on (ring_on bench 0) (asked call.entry)
+        (all_strips cells.old spare.now opening.old crossed.old touched.old) }
+    ensures bench { player_holding result.0 ≡ bench }
 {
     let Call::Open(ring) = call else {
         return (Player::Idle(bench), None);
@@ -78,10 +86,16 @@ fn obey_playing<C: Charge, R: Rule, D: Density<C>>(
     crossed: &mut [C],
     touched: &mut [C],
 ) -> (PlayerOf<C, R, D>, Option<Answer<C>>)
-    ensures said { option_map (answered C.kind) result.1 ≡ said_to C.kind (R.meaning playing.bench.parts.rule) (D.weights C.kind playing.bench.parts.density) playing.len (asked call.entry) (strips C.kind cells.old spare.old opening.old crossed.old touched.old) }
-    ensures left { strips C.kind cells.new spare.new opening.new crossed.new touched.new ≡ left_by C.kind (R.meaning playing.bench.parts.rule) (D.weights C.kind playing.bench.parts.density) playing.len (asked call.entry) (strips C.kind cells.old spare.old opening.old crossed.old touched.old) }
-    ensures cells { open_cells (λ p. p.len) result.0 ≡ cells_after C.kind (R.meaning playing.bench.parts.rule) (D.weights C.kind playing.bench.parts.density) playing.len (asked call.entry) (strips C.kind cells.old spare.old opening.old crossed.old touched.old) }
-    ensures bench { of_player (λ h. h) (λ p. p.bench) result.0 ≡ playing.bench }
+    ensures said { option_map (answered C.kind) result.1
+        ≡ said_on (open_ring playing) (asked call.entry)
+        (all_strips cells.old spare.old opening.old crossed.old touched.old) }
+    ensures left { meant C.kind (all_strips cells.new spare.new opening.new crossed.new touched.new)
+        ≡ left_on (open_ring playing) (asked call.entry)
+        (all_strips cells.old spare.old opening.old crossed.old touched.old) }
+    ensures cells { open_cells ring_len result.0
+        ≡ cells_on (open_ring playing) (asked call.entry)
+        (all_strips cells.old spare.old opening.old crossed.old touched.old) }
+    ensures bench { player_holding result.0 ≡ holding_under playing }
 {
     match call {
         Call::Open(_) => (Player::Playing(playing), None),
@@ -111,10 +125,16 @@ pub fn obey<C: Charge, R: Rule, D: Density<C>>(
     crossed: &mut [C],
     touched: &mut [C],
 ) -> (PlayerOf<C, R, D>, Option<Answer<C>>)
-    ensures said { option_map (answered C.kind) result.1 ≡ said_to C.kind (R.meaning (of_player (λ h. h) (λ p. p.bench) player).parts.rule) (D.weights C.kind (of_player (λ h. h) (λ p. p.bench) player).parts.density) (open_cells (λ p. p.len) player) (asked call.entry) (strips C.kind cells.old spare.old opening.old crossed.old touched.old) }
-    ensures left { strips C.kind cells.new spare.new opening.new crossed.new touched.new ≡ left_by C.kind (R.meaning (of_player (λ h. h) (λ p. p.bench) player).parts.rule) (D.weights C.kind (of_player (λ h. h) (λ p. p.bench) player).parts.density) (open_cells (λ p. p.len) player) (asked call.entry) (strips C.kind cells.old spare.old opening.old crossed.old touched.old) }
-    ensures cells { open_cells (λ p. p.len) result.0 ≡ cells_after C.kind (R.meaning (of_player (λ h. h) (λ p. p.bench) player).parts.rule) (D.weights C.kind (of_player (λ h. h) (λ p. p.bench) player).parts.density) (open_cells (λ p. p.len) player) (asked call.entry) (strips C.kind cells.old spare.old opening.old crossed.old touched.old) }
-    ensures bench { of_player (λ h. h) (λ p. p.bench) result.0 ≡ of_player (λ h. h) (λ p. p.bench) player }
+    ensures said { option_map (answered C.kind) result.1
+        ≡ said_on (player_ring player) (asked call.entry)
+        (all_strips cells.old spare.old opening.old crossed.old touched.old) }
+    ensures left { meant C.kind (all_strips cells.new spare.new opening.new crossed.new touched.new)
+        ≡ left_on (player_ring player) (asked call.entry)
+        (all_strips cells.old spare.old opening.old crossed.old touched.old) }
+    ensures cells { open_cells ring_len result.0
+        ≡ cells_on (player_ring player) (asked call.entry)
+        (all_strips cells.old spare.old opening.old crossed.old touched.old) }
+    ensures bench { player_holding result.0 ≡ player_holding player }
 {
     match player {
         Player::Idle(bench) => obey_idle(bench, call, cells, spare, opening, crossed, touched),
@@ -136,11 +156,21 @@ pub(crate) fn play<C: Charge, R: Rule, D: Density<C>>(
     answers: &mut [Option<Answer<C>>],
 ) -> PlayerOf<C, R, D>
     requires { length script.now ≤ length answers.old }
-    ensures bench { of_player (λ h. h) (λ p. p.bench) result ≡ bench }
-    ensures strips { strips C.kind cells.new spare.new opening.new crossed.new touched.new ≡ (played C.kind (R.meaning bench.parts.rule) (D.weights C.kind bench.parts.density) (strips C.kind cells.old spare.old opening.old crossed.old touched.old) (map asked script.now)).strips }
-    ensures answers { map (option_map (answered C.kind)) (take (length script.now) answers.new) ≡ (played C.kind (R.meaning bench.parts.rule) (D.weights C.kind bench.parts.density) (strips C.kind cells.old spare.old opening.old crossed.old touched.old) (map asked script.now)).said }
+    ensures bench { player_holding result ≡ bench }
+    ensures strips { let p = played_on (holding_bench bench)
+        (all_strips cells.old spare.old opening.old crossed.old touched.old)
+        (map asked script.now) in
+        meant C.kind (all_strips cells.new spare.new opening.new crossed.new touched.new)
+        ≡ p.strips }
+    ensures answers { let p = played_on (holding_bench bench)
+        (all_strips cells.old spare.old opening.old crossed.old touched.old)
+        (map asked script.now) in
+        answers_to C.kind script.now answers.new ≡ p.said }
     ensures past { drop (length script.now) answers.new ≡ drop (length script.now) answers.old }
-    ensures cells { open_cells (λ p. p.len) result ≡ length (standing (played C.kind (R.meaning bench.parts.rule) (D.weights C.kind bench.parts.density) (strips C.kind cells.old spare.old opening.old crossed.old touched.old) (map asked script.now)).log).cells }
+    ensures cells { let p = played_on (holding_bench bench)
+        (all_strips cells.old spare.old opening.old crossed.old touched.old)
+        (map asked script.now) in
+        open_cells ring_len result ≡ length (standing p.log).cells }
 {
     let mut player = Player::Idle(bench);
     for (i, call) in script.iter().enumerate() {

@@ -1,9 +1,9 @@
 // Reading the meters of a site of the open ring.
-ghost use Rattle.std.specs.Prelude.{◌≡◌, [], Ok};
+ghost use Rattle.std.specs.Prelude.{◌≡◌, Ok};
 ghost use Rattle.fault.specs.Answers.{plainly};
-ghost use Rattle.player.specs.Calls.{checked, Does};
 ghost use Rattle.player.specs.Calls.Call.{reads};
-ghost use Rattle.player.specs.Answers.{strips, reading_means, read_said};
+ghost use Rattle.player.specs.Answers.{reading_means, read_said};
+ghost use Rattle.player.specs.Promises.{open_ring, meter_strips, tested_by, DoesOn};
 
 use crate::ledger::read_strip;
 use crate::meters::Reading;
@@ -22,7 +22,9 @@ impl<C: Charge, R: Rule, D: Density<C>> Playing<C, R, D> {
         crossed: &[C],
         touched: &[C],
     ) -> Result<(), Fault>
-        ensures { plainly result ≡ checked (R.meaning self.now.bench.parts.rule).q self.now.len (reads site) (strips C.kind cells.now [] opening.now crossed.now touched.now) }
+        ensures { plainly result
+            ≡ tested_by (open_ring self.now) (reads site)
+            (meter_strips cells.now opening.now crossed.now touched.now) }
     {
         let room = cells
             .len()
@@ -43,9 +45,15 @@ impl<C: Charge, R: Rule, D: Density<C>> Playing<C, R, D> {
         crossed: &mut [C],
         touched: &mut [C],
     ) -> Reading<C>
-        requires { checked (R.meaning self.now.bench.parts.rule).q self.now.len (reads site) (strips C.kind cells.now [] opening.old crossed.old touched.old) ≡ Ok tt }
-        ensures promise { Does C.kind (R.meaning self.now.bench.parts.rule) (D.weights C.kind self.now.bench.parts.density) self.now.len (reads site) (strips C.kind cells.now [] opening.old crossed.old touched.old) (reading_means C.kind result) (strips C.kind cells.now [] opening.new crossed.new touched.new) }
-        ensures kept { (opening.new ≡ opening.old) × (crossed.new ≡ crossed.old) × (touched.new ≡ touched.old) }
+        requires { tested_by (open_ring self.now) (reads site)
+            (meter_strips cells.now opening.old crossed.old touched.old)
+            ≡ Ok tt }
+        ensures promise { DoesOn (open_ring self.now) (reads site)
+            (meter_strips cells.now opening.old crossed.old touched.old)
+            (reading_means C.kind result)
+            (meter_strips cells.now opening.new crossed.new touched.new) }
+        ensures kept { (opening.new ≡ opening.old) × (crossed.new ≡ crossed.old) × (touched.new
+            ≡ touched.old) }
     {
         Reading {
             opening: read_strip(opening, site),
@@ -65,8 +73,11 @@ impl<C: Charge, R: Rule, D: Density<C>> Playing<C, R, D> {
         crossed: &mut [C],
         touched: &mut [C],
     ) -> Result<Reading<C>, Fault>
-        ensures promise { Does C.kind (R.meaning self.now.bench.parts.rule) (D.weights C.kind self.now.bench.parts.density) self.now.len (reads site) (strips C.kind cells.now [] opening.old crossed.old touched.old) (read_said C.kind result) (strips C.kind cells.now [] opening.new crossed.new touched.new) }
-        ensures kept { (opening.new ≡ opening.old) × (crossed.new ≡ crossed.old) × (touched.new ≡ touched.old) }
+        ensures promise { DoesOn (open_ring self.now) (reads site)
+            (meter_strips cells.now opening.old crossed.old touched.old) (read_said C.kind result)
+            (meter_strips cells.now opening.new crossed.new touched.new) }
+        ensures kept { (opening.new ≡ opening.old) × (crossed.new ≡ crossed.old) × (touched.new
+            ≡ touched.old) }
     {
         self.check_read(site, cells, opening, crossed, touched)?;
         Ok(self.read_on(site, cells, opening, crossed, touched))

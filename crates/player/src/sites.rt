@@ -1,7 +1,6 @@
 // The charges that a player writes and books, one a site.
 ghost use Rattle.std.specs.Prelude.{◌≡◌, ℕ};
 ghost use Rattle.charge.specs.Groups.{Kind};
-ghost use Rattle.player.specs.Calls.{charges, crossing_at};
 
 use automaton::{Density, Ring, Rule};
 use bench::{Holding, SiteCrossings};
@@ -36,9 +35,11 @@ pub(crate) struct Sites<'b, 'r, C: Charge, R: Rule, D: Density<C>> {
 }
 
 impl<C: Charge, R: Rule, D: Density<C>> Sites<'_, '_, C, R, D> {
+    ghost use Rattle.player.specs.Promises.{charges_at};
+
     // The charge of site i.
     pub(crate) fn charge(&self, i: usize) -> C
-        ensures { C.kind.means result ≡ charges C.kind (R.meaning self.now.bench.now.parts.rule) (D.weights C.kind self.now.bench.now.parts.density) self.now.ring.cells.now i }
+        ensures { C.kind.means result ≡ charges_at C.kind self.now i }
     {
         self.ring.site_charge(self.bench.density(), i)
     }
@@ -51,7 +52,9 @@ pub(crate) struct Charges<'a, S> {
 }
 
 impl<C: Charge, R: Rule, D: Density<C>> SiteCharges<C> for Charges<'_, Sites<'_, '_, C, R, D>> {
-    ghost charges = { λ K s i. charges K (R.meaning s.sites.now.bench.now.parts.rule) (D.weights K s.sites.now.bench.now.parts.density) s.sites.now.ring.cells.now i };
+    ghost use Rattle.player.specs.Promises.{charges_at};
+
+    ghost charges = { λ K s. charges_at K s.sites.now };
 
     fn charge_at(&self, i: usize) -> C {
         self.sites.charge(i)
@@ -65,7 +68,9 @@ pub(crate) struct Opposites<'a, S> {
 }
 
 impl<C: Charge, R: Rule, D: Density<C>> SiteCharges<C> for Opposites<'_, Sites<'_, '_, C, R, D>> {
-    ghost charges = { λ K s i. K.group.neg (charges K (R.meaning s.sites.now.bench.now.parts.rule) (D.weights K s.sites.now.bench.now.parts.density) s.sites.now.ring.cells.now i) };
+    ghost use Rattle.player.specs.Promises.{charges_at};
+
+    ghost charges = { λ K s i. K.group.neg (charges_at K s.sites.now i) };
 
     fn charge_at(&self, i: usize) -> C {
         self.sites.charge(i).opposite()
@@ -81,7 +86,9 @@ pub(crate) struct Crossings<'b, 'r, C: Charge, R: Rule, D: Density<C>> {
 }
 
 impl<C: Charge, R: Rule, D: Density<C>> SiteCharges<C> for Crossings<'_, '_, C, R, D> {
-    ghost charges = { λ K s i. crossing_at K (R.meaning s.crossings.bench.now.parts.rule) (D.weights K s.crossings.bench.now.parts.density) s.ring.cells.now i };
+    ghost use Rattle.player.specs.Promises.{crossings_at};
+
+    ghost charges = { λ K s. crossings_at K s };
 
     fn charge_at(&self, i: usize) -> C {
         self.crossings.at(self.ring, i)

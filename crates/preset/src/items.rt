@@ -46,7 +46,8 @@ pub(crate) trait Encode: Copy {
 
 // Passes over `count` items.
 pub(crate) fn skip<T: Item>(shape: Shape, input: &mut Unread<'_>, count: usize) -> Result<(), Fault>
-    ensures { Reads input.old input.new result (λ whole bs. skipped (many (T.Item.format.reads shape whole) count bs)) }
+    ensures { Reads input.old input.new result
+        (λ whole bs. skipped (many (T.Item.format.reads shape whole) count bs)) }
 {
     for _ in 0..count {
         T::read(shape, input)?;
@@ -68,8 +69,10 @@ fn read_there<T: Item>(shape: Shape, input: &mut Unread<'_>) -> T
 // Reads `count` items, which are there, into the front of the strip.
 pub(crate) fn fill<T: Item>(shape: Shape, mut input: Unread<'_>, strip: &mut [T], count: usize)
     requires room { count ≤ length strip.old }
-    requires there { is_ok (many (T.Item.format.reads shape input.whole) count input.bytes.now) ≡ true }
-    ensures { strip.new ≡ strip_after (λ p. p.0) strip.old (many (T.Item.format.reads shape input.entry.whole) count input.entry.bytes.now) }
+    requires there { let reads = T.Item.format.reads shape input.whole in
+        is_ok (many reads count input.bytes.now) ≡ true }
+    ensures { let reads = T.Item.format.reads shape input.entry.whole in
+        strip.new ≡ strip_after (λ p. p.0) strip.old (many reads count input.entry.bytes.now) }
 {
     for item in &mut strip[..count] {
         *item = read_there::<T>(shape, &mut input);

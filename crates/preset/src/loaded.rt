@@ -14,7 +14,11 @@ pub struct Loaded<'a> {
     pub header: Header,
     pub letters: &'a [u8],
     pub entries: &'a [Entry],
-    pub ghost sound: { Sound (record { head = record { kind = kind; header = header }; letters = letters.now; entries = entries.now }) } by { Prim.hlevel props },
+    pub ghost sound: { Sound (record {
+      head = record { kind = kind; header = header };
+      letters = letters.now;
+      entries = entries.now;
+    }) } by { Prim.hlevel props },
 }
 
 impl<'a> Loaded<'a> {

@@ -50,7 +50,9 @@ fn find_parts(input: &[u8]) -> Result<Scan<'_>, Fault>
 
 // The same for strips of some lengths, which have to be long enough.
 fn find_parts_for(input: &[u8], letters: usize, entries: usize) -> Result<Scan<'_>, Fault>
-    ensures { MatchResult result (λ s. Scanned input.now s × (most_words ≤ letters) × (most_words ≤ entries)) (λ f. with_room letters entries (preset-at input.now) ≡ Err (refusal f)) }
+    ensures { MatchResult result
+        (λ s. Scanned input.now s × (most_words ≤ letters) × (most_words ≤ entries))
+        (λ f. with_room letters entries (preset-at input.now) ≡ Err (refusal f)) }
 {
     Stop::ShortStrip.unless(STRIP <= letters && STRIP <= entries)?;
     find_parts(input)
@@ -61,8 +63,10 @@ fn fill_strips(input: &[u8], scan: Scan, letters: &mut [u8], entries: &mut [Entr
     requires scanned { Scanned input.now scan }
     requires letter_room { most_words ≤ length letters.old }
     requires entry_room { most_words ≤ length entries.old }
-    ensures letters { letters.new ≡ strip_after (λ p. p.0.letters) letters.old (preset-at input.now) }
-    ensures entries { entries.new ≡ strip_after (λ p. p.0.entries) entries.old (preset-at input.now) }
+    ensures letters { letters.new
+        ≡ strip_after (λ p. p.0.letters) letters.old (preset-at input.now) }
+    ensures entries { entries.new
+        ≡ strip_after (λ p. p.0.entries) entries.old (preset-at input.now) }
 {
     let shape = scan.head.shape();
     fill::<u8>(shape, scan.letters, letters, scan.head.letter_count());
@@ -77,8 +81,10 @@ pub fn read_preset<'a>(
     entries: &mut [Entry],
 ) -> Result<(Header, &'a [u8]), Fault>
     ensures answer { seen result ≡ header_and_rest (reading letters.old entries.old input.now) }
-    ensures letters { letters.new ≡ strip_after (λ p. p.0.letters) letters.old (reading letters.old entries.old input.now) }
-    ensures entries { entries.new ≡ strip_after (λ p. p.0.entries) entries.old (reading letters.old entries.old input.now) }
+    ensures letters { let read = reading letters.old entries.old input.now in
+        letters.new ≡ strip_after (λ p. p.0.letters) letters.old read }
+    ensures entries { let read = reading letters.old entries.old input.now in
+        entries.new ≡ strip_after (λ p. p.0.entries) entries.old read }
     ensures writes_back { PresetWritesBack }
 {
     let scan = find_parts_for(input, letters.len(), entries.len())?;
@@ -90,7 +96,8 @@ pub fn read_preset<'a>(
 
 // The refusal of the bytes that follow a preset.
 fn surplus(rest: &Unread<'_>) -> Fault
-    ensures { refusal result ≡ refused_at SurplusBytes (rest.now.whole - length rest.now.bytes.now) }
+    ensures { let at = rest.now.whole - length rest.now.bytes.now in
+        refusal result ≡ refused_at SurplusBytes at }
 {
     Stop::SurplusBytes.at(rest.place())
 }
@@ -101,9 +108,12 @@ pub(crate) fn read_parts(
     letters: &mut [u8],
     entries: &mut [Entry],
 ) -> Result<Head, Fault>
-    ensures answer { plainly (heads result) ≡ and_then (whole_reading letters.old entries.old input.now) (λ p. Ok p.head) }
-    ensures letters { letters.new ≡ strip_after (λ p. p.letters) letters.old (whole_reading letters.old entries.old input.now) }
-    ensures entries { entries.new ≡ strip_after (λ p. p.entries) entries.old (whole_reading letters.old entries.old input.now) }
+    ensures answer { let read = whole_reading letters.old entries.old input.now in
+        plainly (heads result) ≡ and_then read (λ p. Ok p.head) }
+    ensures letters { let read = whole_reading letters.old entries.old input.now in
+        letters.new ≡ strip_after (λ p. p.letters) letters.old read }
+    ensures entries { let read = whole_reading letters.old entries.old input.now in
+        entries.new ≡ strip_after (λ p. p.entries) entries.old read }
 {
     let scan = find_parts_for(input, letters.len(), entries.len())?;
     if !scan.rest.bytes.is_empty() {
@@ -117,8 +127,10 @@ pub(crate) fn read_parts(
 // The preset that the whole input is goes to the front of the strips.
 pub fn read_whole(input: &[u8], letters: &mut [u8], entries: &mut [Entry]) -> Result<Header, Fault>
     ensures answer { plainly result ≡ header_of (whole_reading letters.old entries.old input.now) }
-    ensures letters { letters.new ≡ strip_after (λ p. p.letters) letters.old (whole_reading letters.old entries.old input.now) }
-    ensures entries { entries.new ≡ strip_after (λ p. p.entries) entries.old (whole_reading letters.old entries.old input.now) }
+    ensures letters { let read = whole_reading letters.old entries.old input.now in
+        letters.new ≡ strip_after (λ p. p.letters) letters.old read }
+    ensures entries { let read = whole_reading letters.old entries.old input.now in
+        entries.new ≡ strip_after (λ p. p.entries) entries.old read }
     ensures one_spelling { OneSpelling }
     ensures sizes { PresetSizes }
 {

@@ -22,19 +22,22 @@ pub trait Sent: Charge {
 
     // The charge that is sent as an entry, if the kind allows the entry.
     fn from_entry(entry: Entry) -> Option<Self>
-        ensures { option_map sending.entry result ≡ (if fits sending.named entry then Some entry else None) };
+        ensures { option_map sending.entry result
+            ≡ (if fits sending.named entry then Some entry else None) };
 }
 
 // The pitch class of a number, if it is one.
 fn pitch_of(plain: u64) -> Option<Pitch>
-    ensures { option_map (λ p. p.class) result ≡ (if nat_lt plain pitch_end then Some plain else None) }
+    ensures { option_map (λ p. p.class) result
+        ≡ (if nat_lt plain pitch_end then Some plain else None) }
 {
     Pitch::new(u8::try_from(plain).ok()?)
 }
 
 // The set of channels of a number, if it is one.
 fn channels_of(plain: u64) -> Option<Channels>
-    ensures { option_map (λ c. c.bits) result ≡ (if nat_lt plain (2 ^ channel_bits) then Some plain else None) }
+    ensures { option_map (λ c. c.bits) result
+        ≡ (if nat_lt plain (2 ^ channel_bits) then Some plain else None) }
 {
     let bits = u16::try_from(plain).ok()?;
     Some(Channels { bits })

@@ -27,7 +27,8 @@ impl Strips {
     // Strips of zeros.
     pub fn new() -> Strips
         ensures letters { result.letters ≡ replicate most_words 0 }
-        ensures entries { result.entries ≡ replicate most_words (record { signed = pos 0; plain = 0 }) }
+        ensures entries { result.entries
+            ≡ replicate most_words (record { signed = pos 0; plain = 0 }) }
     {
         Strips {
             letters: [0; STRIP],

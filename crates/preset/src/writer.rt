@@ -48,7 +48,9 @@ fn check_head(header: Header) -> Result<Head, Fault>
 
 // Each letter and each entry is allowed.
 fn check_contents(head: Head, letters: &[u8], entries: &[Entry]) -> Result<(), Fault>
-    ensures { plainly result ≡ contents_checked (record { head = head_of head; letters = letters.now; entries = entries.now }) }
+    ensures { plainly result
+        ≡ contents_checked
+        (record { head = head_of head; letters = letters.now; entries = entries.now }) }
 {
     let shape = head.shape();
     check::<u8>(shape, letters)?;
@@ -57,7 +59,9 @@ fn check_contents(head: Head, letters: &[u8], entries: &[Entry]) -> Result<(), F
 
 // Every test but the byte strip's.
 fn check_preset(header: Header, letters: &[u8], entries: &[Entry]) -> Result<Head, Fault>
-    ensures { MatchResult result (Checked header letters.now entries.now) (λ f. checked header letters.now entries.now ≡ Err (refusal f)) }
+    ensures { MatchResult result
+        (Checked header letters.now entries.now)
+        (λ f. checked header letters.now entries.now ≡ Err (refusal f)) }
 {
     let head = check_head(header)?;
     let letter_count = head.letter_count();
@@ -111,7 +115,8 @@ pub fn write_preset(
     out: &mut [u8],
 ) -> Result<usize, Fault>
     ensures answer { plainly result ≡ written (writing header letters.now entries.now out.old) }
-    ensures strip { out.new ≡ strip_after (λ bytes. bytes) out.old (writing header letters.now entries.now out.old) }
+    ensures strip { let written = writing header letters.now entries.now out.old in
+        out.new ≡ strip_after (λ bytes. bytes) out.old written }
     ensures reads_back { PresetReadsBack }
 {
     let preset = load(header, letters, entries)?;

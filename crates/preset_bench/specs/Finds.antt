@@ -6,7 +6,7 @@ use Rattle.fault.specs.Answers.{and_then, front}
 use Rattle.fault.specs.Refusals.{Refusal}
 use Rattle.charge.specs.Groups.{Kind}
 use Rattle.automaton.specs.Making.{table_rule, table_density, rule_making, table_making, done}
-use Rattle.automaton.specs.Meanings.{Local, Weights, next, total}
+use Rattle.automaton.specs.Meanings.{Local, Weights}
 use Rattle.criterion.specs.Answers.{ring_written, unless_refused}
 use Rattle.criterion.specs.Search.{padding, crossings}
 use Rattle.criterion.specs.Strips.{FrontMeans}
@@ -15,9 +15,9 @@ use Rattle.preset.specs.declared.header.Header.{Header}
 use Rattle.preset.specs.Sending.{Sending}
 use Rattle.bench.specs.declared.state.Break.{Break}
 use Rattle.bench.specs.Answers.{found_said}
-use Rattle.bench.specs.Labels.{rule_label_list}
+use Rattle.bench.specs.Benches.{Bench, bench_of, label_of, total_before, total_after}
 use Rattle.bench.specs.Laws.{VerdictRight}
-use Rattle.bench.specs.Verdicts.{broken, bench_checked, judge_found}
+use Rattle.bench.specs.Verdicts.{broken, bench_checked, Found, Lent, judge_found}
 
 -- An answer that means what was found, with the two totals of the ring shown, and what is right of all rings.
 pub record FoundIs {C : Type 0} (K : Kind C) (first second : List ℕ → K.group.Carrier) (Right : Result (Option (ℕ × List ℕ)) Refusal → Type 0)
@@ -33,8 +33,8 @@ pub record Finds {C : Type 0} (K : Kind C) (label : Weights K.group.Carrier) (fi
   pub shown : ring ≡ front (ring_written found) strip
 
 -- for a rule under a density
-abbrev pub JudgeFinds : {C : Type 0} (K : Kind C) → Local → Weights K.group.Carrier → Result (Option (ℕ × List ℕ)) Refusal → List C → List C → List ℕ → List ℕ → Result (Option (Break C)) Fault → Type 0
-JudgeFinds K r d = Finds K (rule_label_list K.group r d) (total K.group d) (λ c. total K.group d (next r c)) (VerdictRight K r d)
+abbrev pub JudgeFinds : {C : Type 0} {K : Kind C} → Bench K → Found → Lent C → Lent C → Result (Option (Break C)) Fault → Type 0
+JudgeFinds {C} {K} b found old new = Finds K (label_of b) (total_before b) (total_after b) (VerdictRight b) found old.crossings new.crossings old.ring new.ring
 
 -- the rule of a preset, and its density by charges
 abbrev pub preset_rule : Header → List ℕ → Local
@@ -43,17 +43,21 @@ preset_rule h letters = table_rule h.q h.n h.l letters
 abbrev pub preset_density : {C : Type 0} → (K : Kind C) → Header → List C → Weights K.group.Carrier
 preset_density K h charges = table_density K h.q h.k charges
 
+-- the bench of a preset, by charges
+abbrev pub preset_bench : {C : Type 0} → (K : Kind C) → Header → List ℕ → List C → Bench K
+preset_bench K h letters charges = bench_of K (preset_rule h letters) (preset_density K h charges)
+
 -- the tests that the bench of a preset passes
 abbrev pub preset_checked : {C : Type 0} → Kind C → Header → List ℕ → List C → Result (Unit {0}) Refusal
 preset_checked K h letters charges =
     and_then (done (rule_making h.q h.n h.l (h.q ^ h.n) letters)) (λ _.
     and_then (done (table_making K h.q h.k charges)) (λ _.
-    bench_checked (preset_rule h letters) (preset_density K h charges)))
+    bench_checked (preset_bench K h letters charges)))
 
 -- what judging finds on strips of some lengths, once the bench is made
 abbrev pub preset_found : {C : Type 0} → Kind C → ℕ → ℕ → Header → List ℕ → List C → Result (Option (ℕ × List ℕ)) Refusal
 preset_found K crossing_room ring_room h letters charges =
-    and_then (preset_checked K h letters charges) (λ _. judge_found K crossing_room ring_room (preset_rule h letters) (preset_density K h charges))
+    and_then (preset_checked K h letters charges) (λ _. judge_found (preset_bench K h letters charges) crossing_room ring_room)
 
 -- a break with its totals as entries, and what was found likewise
 abbrev pub sent_break : {C : Type 0} → Sending C → Break C → Break Entry

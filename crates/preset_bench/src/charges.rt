@@ -51,8 +51,10 @@ fn write_charges<C: Sent>(entries: &[Entry], strip: &mut [C])
 
 // Writes the charges that are sent as the entries to the front of a strip. A refusal leaves the strip as it was.
 pub fn fill_charges<C: Sent>(entries: &[Entry], strip: &mut [C]) -> Result<(), Fault>
-    ensures answer { plainly result ≡ charges_checked C.sending.named (length strip.old) entries.now }
-    ensures strip { FrontSent C.sending (entries_written (charges_checked C.sending.named (length strip.old) entries.now) entries.now) strip.old strip.new }
+    ensures answer { plainly result
+        ≡ charges_checked C.sending.named (length strip.old) entries.now }
+    ensures strip { let checked = charges_checked C.sending.named (length strip.old) entries.now in
+        FrontSent C.sending (entries_written checked entries.now) strip.old strip.new }
 {
     Stop::ShortStrip.unless(entries.len() <= strip.len())?;
     check_entries::<C>(entries)?;

@@ -1,7 +1,7 @@
 // A preset that was read, as a bench.
 ghost use Rattle.std.specs.Prelude.{◌≡◌, Ok, Err, MatchResult};
 ghost use Rattle.fault.specs.Refusals.{refusal};
-ghost use Rattle.automaton.specs.Making.{table_rule, table_density};
+ghost use Rattle.bench.specs.States.{draft_bench};
 ghost use Rattle.preset_bench.specs.Finds.{preset_rule, preset_density, preset_checked};
 
 use automaton::{TableDensity, TableRule};
@@ -15,7 +15,14 @@ pub fn draft<'a, C: Charge>(
     preset: Loaded<'a>,
     charges: &'a [C],
 ) -> Result<Draft<C, TableRule<'a>, TableDensity<'a, C>>, Fault>
-    ensures { MatchResult result (λ d. (preset_checked C.kind preset.entry.header preset.entry.letters.now charges.now ≡ Ok tt) × (table_rule d.parts.rule.table.words.q d.parts.rule.table.words.m d.parts.rule.table.l d.parts.rule.table.letters.now ≡ preset_rule preset.entry.header preset.entry.letters.now) × (table_density C.kind d.parts.density.words.q d.parts.density.words.m d.parts.density.entries.now ≡ preset_density C.kind preset.entry.header charges.now)) (λ f. preset_checked C.kind preset.entry.header preset.entry.letters.now charges.now ≡ Err (refusal f)) }
+    ensures { let h = preset.entry.header in
+        let letters = preset.entry.letters.now in
+        let checked = preset_checked C.kind h letters charges.now in
+        MatchResult result
+        (λ d. (checked ≡ Ok tt)
+        × ((draft_bench d).rule ≡ preset_rule h letters)
+        × ((draft_bench d).density ≡ preset_density C.kind h charges.now))
+        (λ f. checked ≡ Err (refusal f)) }
 {
     let header = preset.header;
     let mut rule = TableRule::zero();

@@ -1,7 +1,8 @@
 // A preset that was read, judged.
 ghost use Rattle.std.specs.Prelude.{◌≡◌, length};
-ghost use Rattle.bench.specs.Verdicts.{judge_found};
-ghost use Rattle.preset_bench.specs.Finds.{JudgeFinds, preset_rule, preset_density, preset_found};
+ghost use Rattle.bench.specs.States.{draft_bench};
+ghost use Rattle.bench.specs.Verdicts.{lent, judge_found};
+ghost use Rattle.preset_bench.specs.Finds.{JudgeFinds, preset_bench, preset_found};
 
 use crate::drafting::draft;
 use automaton::{Density, Rule};
@@ -16,7 +17,9 @@ fn judge_draft<C: Charge, R: Rule + Drop, D: Density<C> + Drop>(
     crossings: &mut [C],
     ring: &mut [u8],
 ) -> Result<Option<Break<C>>, Fault>
-    ensures { JudgeFinds C.kind (R.meaning draft.parts.rule) (D.weights C.kind draft.parts.density) (judge_found C.kind (length crossings.old) (length ring.old) (R.meaning draft.parts.rule) (D.weights C.kind draft.parts.density)) crossings.old crossings.new ring.old ring.new result }
+    ensures { let b = draft_bench draft in
+        JudgeFinds b (judge_found b (length crossings.old) (length ring.old))
+        (lent crossings.old ring.old) (lent crossings.new ring.new) result }
 {
     Ok(draft.judge(crossings, ring)?.found())
 }
@@ -28,7 +31,12 @@ pub fn judge<C: Charge>(
     crossings: &mut [C],
     ring: &mut [u8],
 ) -> Result<Option<Break<C>>, Fault>
-    ensures { JudgeFinds C.kind (preset_rule preset.entry.header preset.entry.letters.now) (preset_density C.kind preset.entry.header charges.now) (preset_found C.kind (length crossings.old) (length ring.old) preset.entry.header preset.entry.letters.now charges.now) crossings.old crossings.new ring.old ring.new result }
+    ensures { let h = preset.entry.header in
+        let letters = preset.entry.letters.now in
+        let found = preset_found C.kind (length crossings.old)
+        (length ring.old) h letters charges.now in
+        JudgeFinds (preset_bench C.kind h letters charges.now) found
+        (lent crossings.old ring.old) (lent crossings.new ring.new) result }
 {
     judge_draft(draft(preset, charges)?, crossings, ring)
 }

@@ -2,35 +2,32 @@
 use Rattle.std.proofs.Common.{◌≡◌, ℕ, ◌^◌, List, map, length, take, IfSome, IsErrAnd, Ok, Err, Option, Result, sym, refl, ap, ◌∙◌, subst}
 use Rattle.fault.specs.declared.Fault.{Fault}
 use Rattle.charge.specs.Groups.{Kind}
-use Rattle.automaton.specs.Meanings.{next, total}
 use Rattle.criterion.specs.Answers.{unless_refused}
-use Rattle.criterion.specs.Search.{padding, crossings}
 use Rattle.preset.specs.Sending.{Sending}
 use Rattle.preset.specs.declared.header.Header.{Header}
 use Rattle.console.specs.Shows.{unless_memory}
 use Rattle.console.specs.declared.failure.ShowError.{ShowError}
 use Rattle.console.specs.declared.failure.ShowError.TheVariants.{Refused}
 use Rattle.bench.specs.declared.state.Break.{Break}
-use Rattle.bench.specs.Labels.{rule_label_list}
+use Rattle.bench.specs.Benches.{label_of, total_before, total_after, crossings_of}
+use Rattle.bench.specs.Verdicts.{lent}
 use Rattle.report.specs.declared.line.Line.{Line}
 use Rattle.preset_bench.proofs.Counts.{count-is}
-use Rattle.preset_bench.specs.Finds.{JudgeFinds, preset_rule, preset_density, preset_found}
+use Rattle.preset_bench.specs.Finds.{JudgeFinds, preset_bench, preset_found}
 use Rattle.report.specs.Finds.{answer_good}
 use Rattle.report.specs.Lines.{LineIs}
 use Rattle.report.specs.Reports.{ToldCrossings, crossing_shape}
 use Rattle.report.specs.Texts.{Shape, row_text, rows_text}
 
 pub page-told : {C : Type 0} (K : Kind C) (S : Sending C) (room cells : ℕ) (h : Header) (letters : List ℕ) (charges old new : List C) (strip ring : List ℕ) (o : Option (Break C))
-    → JudgeFinds K (preset_rule h letters) (preset_density K h charges) (preset_found K room cells h letters charges) old new strip ring (Ok o)
+    → JudgeFinds (preset_bench K h letters charges) (preset_found K room cells h letters charges) (lent old strip) (lent new ring) (Ok o)
     → (shape : Shape) → shape ≡ crossing_shape S.named h → (l : Line) → LineIs (rows_text (λ i x. row_text shape i (S.entry x)) 0 (take (shape.q ^ shape.m) new)) (answer_good o) l
     → ToldCrossings K S room cells h letters charges (Ok l)
 page-told K S room cells h letters charges old new strip ring o finds shape same l is =
-    let d = preset_density K h charges in
-    let r = preset_rule h letters in
-    let label = rule_label_list K.group r d in
+    let b = preset_bench K h letters charges in
     let to = crossing_shape S.named h in
     let found = preset_found K room cells h letters charges in
-    let count = count-is K label (total K.group d) (λ c. total K.group d (next r c)) found o finds.is.said in
+    let count = count-is K (label_of b) (total_before b) (total_after b) found o finds.is.said in
     record {
       answer = Ok o;
       is = finds.is;
@@ -44,12 +41,12 @@ page-told K S room cells h letters charges old new strip ring o finds shape same
 
 -- what is told where judging is refused
 pub refusal-told : {C : Type 0} (K : Kind C) (S : Sending C) (room cells : ℕ) (h : Header) (letters : List ℕ) (charges old new : List C) (strip ring : List ℕ) (f : Fault)
-    → JudgeFinds K (preset_rule h letters) (preset_density K h charges) (preset_found K room cells h letters charges) old new strip ring (Err f)
+    → JudgeFinds (preset_bench K h letters charges) (preset_found K room cells h letters charges) (lent old strip) (lent new ring) (Err f)
     → ToldCrossings K S room cells h letters charges (Err f)
 refusal-told K S room cells h letters charges old new strip ring f finds = record {
   answer = Err f;
   is = finds.is;
-  crossed = take (length (unless_refused (preset_found K room cells h letters charges) (crossings K padding (rule_label_list K.group (preset_rule h letters) (preset_density K h charges))))) new;
+  crossed = take (length (unless_refused (preset_found K room cells h letters charges) (crossings_of (preset_bench K h letters charges)))) new;
   meant = finds.crossed.0;
   page = refl;
 }

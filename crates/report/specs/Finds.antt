@@ -2,7 +2,6 @@
 use Rattle.std.specs.Prelude.{ℕ, Bool, true, false, List, Some, None, Option, Result}
 use Rattle.fault.specs.declared.Fault.{Fault}
 use Rattle.fault.specs.Answers.{and_then}
-use Rattle.fault.specs.Refusals.{Refusal}
 use Rattle.charge.specs.Groups.{Kind}
 use Rattle.automaton.specs.Making.{table_making, done}
 use Rattle.automaton.specs.Meanings.{Weights, total}
@@ -10,19 +9,19 @@ use Rattle.preset.specs.declared.header.Header.{Header}
 use Rattle.bench.specs.declared.state.Break.{Break}
 use Rattle.bench.specs.Labels.{two_label_list}
 use Rattle.bench.specs.Laws.{ComparisonRight}
-use Rattle.bench.specs.Verdicts.{compare_found}
+use Rattle.bench.specs.Verdicts.{Found, Lent, compare_found}
 use Rattle.preset_bench.specs.Finds.{Finds, preset_density}
 
 -- what was found for two densities
-abbrev pub CompareFinds : {C : Type 0} (K : Kind C) → Weights K.group.Carrier → Weights K.group.Carrier → Result (Option (ℕ × List ℕ)) Refusal → List C → List C → List ℕ → List ℕ → Result (Option (Break C)) Fault → Type 0
-CompareFinds K d e = Finds K (two_label_list K.group d e) (total K.group d) (total K.group e) (ComparisonRight K d e)
+abbrev pub CompareFinds : {C : Type 0} (K : Kind C) → Weights K.group.Carrier → Weights K.group.Carrier → Found → Lent C → Lent C → Result (Option (Break C)) Fault → Type 0
+CompareFinds K d e found old new = Finds K (two_label_list K.group d e) (total K.group d) (total K.group e) (ComparisonRight K d e) found old.crossings new.crossings old.ring new.ring
 
 -- what comparing finds on strips of some lengths, once the two densities are made
-abbrev pub pair_found : {C : Type 0} → Kind C → ℕ → ℕ → Header → List C → Header → List C → Result (Option (ℕ × List ℕ)) Refusal
+abbrev pub pair_found : {C : Type 0} → Kind C → ℕ → ℕ → Header → List C → Header → List C → Found
 pair_found K crossing_room ring_room h charges h' charges' =
     and_then (done (table_making K h.q h.k charges)) (λ _.
     and_then (done (table_making K h'.q h'.k charges')) (λ _.
-    compare_found K crossing_room ring_room (preset_density K h charges) (preset_density K h' charges')))
+    compare_found K (preset_density K h charges) (preset_density K h' charges') crossing_room ring_room))
 
 -- no word failed
 abbrev pub answer_good : {C : Type 0} → Option (Break C) → Bool

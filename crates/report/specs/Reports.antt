@@ -9,20 +9,20 @@ use Rattle.charge.specs.Numbers.{number_of}
 use Rattle.charge.specs.Kinds.{voices, pitch, channels, both}
 use Rattle.charge.specs.declared.kind.ChargeKind.{ChargeKind}
 use Rattle.charge.specs.declared.kind.ChargeKind.TheVariants.{Voices, Pitch, Channels, Both}
-use Rattle.automaton.specs.Meanings.{next, total}
+use Rattle.automaton.specs.Meanings.{total}
 use Rattle.criterion.specs.Answers.{ring_written, unless_refused}
-use Rattle.criterion.specs.Search.{padding, most_shown, crossings}
+use Rattle.criterion.specs.Search.{most_shown}
 use Rattle.preset.specs.Presets.{Preset}
 use Rattle.preset.specs.Sending.{Sending, voices_sending, pitch_sending, channels_sending, both_sending}
 use Rattle.preset.specs.declared.entry.Entry.{Entry}
 use Rattle.preset.specs.declared.header.Header.{Header}
 use Rattle.bench.specs.declared.state.Break.{Break}
-use Rattle.bench.specs.Labels.{rule_label_list}
+use Rattle.bench.specs.Benches.{total_before, total_after, crossings_of}
 use Rattle.bench.specs.Laws.{VerdictRight, ComparisonRight}
 use Rattle.report.specs.declared.line.Line.{Line}
 use Rattle.report.specs.declared.line.Question.{Question}
 use Rattle.report.specs.declared.line.Question.TheVariants.{Judge, Compare}
-use Rattle.preset_bench.specs.Finds.{FoundIs, preset_rule, preset_density, preset_found, sent_found}
+use Rattle.preset_bench.specs.Finds.{FoundIs, preset_bench, preset_density, preset_found, sent_found}
 use Rattle.report.specs.Finds.{pair_found, answer_good}
 use Rattle.report.specs.Lines.{LineIs}
 use Rattle.report.specs.Texts.{Shape, kinds_text, two_names, refused_text, verdict_text, verdict_good, row_text, rows_text}
@@ -45,11 +45,8 @@ pub record VerdictLine {C : Type 0} (K : Kind C) (S : Sending C) (question : Que
 -- the line of a preset with its charges, judged on strips of some lengths
 abbrev pub ToldJudgement : {C : Type 0} (K : Kind C) → Sending C → ℕ → ℕ → List ℕ → Header → List ℕ → List C → Line → Type 0
 ToldJudgement K S room cells name h letters charges =
-    VerdictLine K S Judge name (judge_shape S.named h)
-    (total K.group (preset_density K h charges))
-    (λ c. total K.group (preset_density K h charges) (next (preset_rule h letters) c))
-    (VerdictRight K (preset_rule h letters) (preset_density K h charges))
-    (preset_found K room cells h letters charges)
+    let b = preset_bench K h letters charges in
+    VerdictLine K S Judge name (judge_shape S.named h) (total_before b) (total_after b) (VerdictRight b) (preset_found K room cells h letters charges)
 
 -- the line of a preset of one kind: some charges that are sent as its entries are judged
 pub record JudgeLine {C : Type 0} (K : Kind C) (S : Sending C) (name : List ℕ) (h : Header) (letters : List ℕ) (entries : List Entry) (l : Line) : Type 0 where
@@ -118,9 +115,9 @@ PageIs S shape crossed (Err f) (Err g) = f ≡ g
 -- The page of a preset with its charges, judged on strips of some lengths: charges that mean its crossings, a row each.
 pub record ToldCrossings {C : Type 0} (K : Kind C) (S : Sending C) (room cells : ℕ) (h : Header) (letters : List ℕ) (charges : List C) (r : Result Line Fault) : Type 0 where
   pub answer : Result (Option (Break C)) Fault
-  pub is : FoundIs K (total K.group (preset_density K h charges)) (λ c. total K.group (preset_density K h charges) (next (preset_rule h letters) c)) (VerdictRight K (preset_rule h letters) (preset_density K h charges)) (preset_found K room cells h letters charges) answer
+  pub is : let b = preset_bench K h letters charges in FoundIs K (total_before b) (total_after b) (VerdictRight b) (preset_found K room cells h letters charges) answer
   pub crossed : List C
-  pub meant : map K.means crossed ≡ unless_refused (preset_found K room cells h letters charges) (crossings K padding (rule_label_list K.group (preset_rule h letters) (preset_density K h charges)))
+  pub meant : map K.means crossed ≡ unless_refused (preset_found K room cells h letters charges) (crossings_of (preset_bench K h letters charges))
   pub page : PageIs S (crossing_shape S.named h) crossed answer r
 
 -- the page of a preset of one kind: some charges that are sent as its entries are judged

@@ -1,5 +1,6 @@
 // The densities of two presets that were read, compared.
 ghost use Rattle.std.specs.Prelude.{length};
+ghost use Rattle.bench.specs.Verdicts.{lent};
 ghost use Rattle.preset_bench.specs.Finds.{preset_density};
 ghost use Rattle.report.specs.Finds.{CompareFinds, pair_found};
 
@@ -18,7 +19,12 @@ pub(crate) fn compare_tables<C: Charge>(
     crossings: &mut [C],
     ring: &mut [u8],
 ) -> Result<Option<Break<C>>, Fault>
-    ensures { CompareFinds C.kind (preset_density C.kind first charges.now) (preset_density C.kind second others.now) (pair_found C.kind (length crossings.old) (length ring.old) first charges.now second others.now) crossings.old crossings.new ring.old ring.new result }
+    ensures { let d = preset_density C.kind first charges.now in
+        let e = preset_density C.kind second others.now in
+        let found = pair_found C.kind (length crossings.old) (length ring.old)
+        first charges.now second others.now in
+        CompareFinds C.kind d e found
+        (lent crossings.old ring.old) (lent crossings.new ring.new) result }
 {
     let mut density = TableDensity::zero();
     density.fill(first.q, first.k, charges)?;

@@ -18,7 +18,8 @@ use std::alloc::{AllocError, Global};
 
 // The kind and the alphabet of two densities, and the words that their label is on.
 fn compare_shape(first: Loaded<'_>, second: Loaded<'_>) -> Shape
-    ensures { shape_of result ≡ compare_shape first.entry.kind first.entry.header second.entry.header }
+    ensures { let p = first.entry in
+        shape_of result ≡ compare_shape p.kind p.header second.entry.header }
 {
     Shape {
         kind: first.kind,
@@ -36,7 +37,10 @@ fn compare_charges<C: Sent>(
 ) -> Result<Line, AllocError>
     requires first { first.kind ≡ C.sending.named }
     requires second { second.kind ≡ C.sending.named }
-    ensures { IfOk result (CompareLine C.kind C.sending subject.now first.entry.header first.entry.entries.now second.entry.header second.entry.entries.now) }
+    ensures { let p = first.entry in
+        let other = second.entry in
+        IfOk result (CompareLine C.kind C.sending subject.now
+        p.header p.entries.now other.header other.entries.now) }
 {
     let charges = charges_of::<C>(alloc, first.entries)?;
     let others = charges_of::<C>(alloc, second.entries)?;
@@ -66,7 +70,10 @@ fn compare_kind(
     second: Loaded<'_>,
 ) -> Result<Line, AllocError>
     requires { second.kind ≡ first.kind }
-    ensures { IfOk result (ComparedAs true first.entry.kind subject.now first.entry.header first.entry.entries.now second.entry.header second.entry.entries.now) }
+    ensures { let p = first.entry in
+        let other = second.entry in
+        IfOk result (ComparedAs true p.kind subject.now
+        p.header p.entries.now other.header other.entries.now) }
 {
     match first.kind {
         ChargeKind::Voices => compare_charges::<Voices>(alloc, subject, first, second),
@@ -83,7 +90,10 @@ fn compare_loaded(
     first: Loaded<'_>,
     second: Loaded<'_>,
 ) -> Result<Line, AllocError>
-    ensures { IfOk result (ComparedAs (same_kind first.entry.kind second.entry.kind) first.entry.kind subject.now first.entry.header first.entry.entries.now second.entry.header second.entry.entries.now) }
+    ensures { let p = first.entry in
+        let other = second.entry in
+        IfOk result (ComparedAs (same_kind p.kind other.kind) p.kind subject.now
+        p.header p.entries.now other.header other.entries.now) }
 {
     if first.kind != second.kind {
         return kinds_line(alloc, subject);
@@ -99,7 +109,8 @@ fn compare_with(
     other: &str,
     bytes: &[u8],
 ) -> Result<Line, AllocError>
-    ensures { IfOk result (CompareTells name.now other.now (Ok (preset_of first.entry)) (whole_preset bytes.now)) }
+    ensures { let read = Ok (preset_of first.entry) in
+        IfOk result (CompareTells name.now other.now read (whole_preset bytes.now)) }
 {
     let mut strips = Strips::new();
     match strips.read(bytes) {
@@ -119,7 +130,8 @@ pub fn compare_line(
     other: &str,
     bytes: &[u8],
 ) -> Result<Line, AllocError>
-    ensures { IfOk result (CompareTells name.now other.now (whole_preset input.now) (whole_preset bytes.now)) }
+    ensures { IfOk result (CompareTells name.now other.now
+        (whole_preset input.now) (whole_preset bytes.now)) }
 {
     let mut strips = Strips::new();
     match strips.read(input) {

@@ -34,8 +34,12 @@ fn page_line<C: Sent>(
     strip: &[C],
     found: Option<Break<C>>,
 ) -> Result<Line, AllocError>
-    requires { (shape.m ≤ 22) × (shape.q ^ shape.m ≤ 4096) × (shape.q ^ shape.m ≤ length strip.now) }
-    ensures { IfOk result (LineIs (rows_text (λ i x. row_text (shape_of shape) i (C.sending.entry x)) 0 (take (shape.q ^ shape.m) strip.now)) (answer_good found)) }
+    requires { (shape.m ≤ 22)
+        × (shape.q ^ shape.m ≤ 4096)
+        × (shape.q ^ shape.m ≤ length strip.now) }
+    ensures { let rows = rows_text (λ i x. row_text (shape_of shape) i (C.sending.entry x)) 0
+        (take (shape.q ^ shape.m) strip.now) in
+        IfOk result (LineIs rows (answer_good found)) }
 {
     let count = shape.q.pow(shape.m as u32);
     let text = rows_text(alloc, shape, &strip[..count])?;
@@ -48,7 +52,9 @@ fn page_line<C: Sent>(
 // The page of a preset of one kind.
 fn cross_charges<C: Sent>(alloc: Global, preset: Loaded<'_>) -> Result<Line, ShowError>
     requires { preset.kind ≡ C.sending.named }
-    ensures { IfSome (unless_memory result) (CrossingsPage C.kind C.sending preset.entry.header preset.entry.letters.now preset.entry.entries.now) }
+    ensures { let p = preset.entry in
+        IfSome (unless_memory result)
+        (CrossingsPage C.kind C.sending p.header p.letters.now p.entries.now) }
 {
     let charges = charges_of::<C>(alloc, preset.entries)?;
     let mut strip = vec![in alloc; C::zero(); CROSSING_ROOM]?;
@@ -60,7 +66,8 @@ fn cross_charges<C: Sent>(alloc: Global, preset: Loaded<'_>) -> Result<Line, Sho
 
 // The page of a preset of any kind, by cases as for its verdict.
 fn cross_kind(alloc: Global, preset: Loaded<'_>) -> Result<Line, ShowError>
-    ensures { IfSome (unless_memory result) (CrossedAs preset.entry.kind preset.entry.header preset.entry.letters.now preset.entry.entries.now) }
+    ensures { let p = preset.entry in
+        IfSome (unless_memory result) (CrossedAs p.kind p.header p.letters.now p.entries.now) }
 {
     match preset.kind {
         ChargeKind::Voices => cross_charges::<Voices>(alloc, preset),

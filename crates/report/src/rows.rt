@@ -8,7 +8,8 @@ use std::alloc::{AllocError, Global};
 
 // Adds the row of a word by its code and what crosses there.
 fn push_row(text: &mut String, shape: Shape, code: usize, entry: Entry) -> Result<(), AllocError>
-    ensures { OnOk result (string_bytes text.new ≡ string_bytes text.old ++ row_text (shape_of shape) code entry) }
+    ensures { OnOk result (string_bytes text.new
+        ≡ string_bytes text.old ++ row_text (shape_of shape) code entry) }
 {
     let word = shape.word(code);
     let crossing = shape.entry(entry);
@@ -21,7 +22,8 @@ pub(crate) fn rows_text<C: Sent>(
     shape: Shape,
     crossings: &[C],
 ) -> Result<String, AllocError>
-    ensures { IfOk result (λ s. string_bytes s ≡ rows_text (λ i x. row_text (shape_of shape) i (C.sending.entry x)) 0 crossings.now) }
+    ensures { IfOk result (λ s. string_bytes s
+        ≡ rows_text (λ i x. row_text (shape_of shape) i (C.sending.entry x)) 0 crossings.now) }
 {
     let mut text = String::new(alloc);
     for (code, charge) in crossings.iter().enumerate() {

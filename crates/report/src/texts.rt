@@ -59,7 +59,10 @@ impl Asked<'_> {
         ring: &[u8],
         finding: Break<Entry>,
     ) -> Result<Line, AllocError>
-        ensures { IfOk result (LineIs (finding_text self.entry.question self.entry.subject.now (shape_of self.entry.shape) ring.now finding) false) }
+        ensures { let asked = self.entry in
+            let shape = shape_of asked.shape in
+            let text = finding_text asked.question asked.subject.now shape ring.now finding in
+            IfOk result (LineIs text false) }
     {
         let subject = self.subject;
         let verdict = self.question.bad_word();
@@ -79,7 +82,10 @@ impl Asked<'_> {
         found: Result<Option<Break<Entry>>, Fault>,
     ) -> Result<Line, AllocError>
         requires { ring_fits found strip.now }
-        ensures { IfOk result (LineIs (verdict_text self.entry.question self.entry.subject.now (shape_of self.entry.shape) strip.now found) (verdict_good found)) }
+        ensures { let asked = self.entry in
+            let shape = shape_of asked.shape in
+            let text = verdict_text asked.question asked.subject.now shape strip.now found in
+            IfOk result (LineIs text (verdict_good found)) }
     {
         match found {
             Err(fault) => refused_line(alloc, self.subject, fault),

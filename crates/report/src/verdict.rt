@@ -31,7 +31,8 @@ pub(crate) fn judge_shape(preset: Loaded<'_>) -> Shape
 // The line of a preset of one kind.
 fn judge_charges<C: Sent>(alloc: Global, name: &str, preset: Loaded<'_>) -> Result<Line, AllocError>
     requires { preset.kind ≡ C.sending.named }
-    ensures { IfOk result (JudgeLine C.kind C.sending name.now preset.entry.header preset.entry.letters.now preset.entry.entries.now) }
+    ensures { let p = preset.entry in
+        IfOk result (JudgeLine C.kind C.sending name.now p.header p.letters.now p.entries.now) }
 {
     let charges = charges_of::<C>(alloc, preset.entries)?;
     let mut crossings = vec![in alloc; C::zero(); CROSSING_ROOM]?;
@@ -48,7 +49,8 @@ fn judge_charges<C: Sent>(alloc: Global, name: &str, preset: Loaded<'_>) -> Resu
 // The line of a preset of any kind. What is done for each kind is a generic function, which no closure or `dyn` can
 // stand for.
 pub(crate) fn judge_kind(alloc: Global, name: &str, preset: Loaded<'_>) -> Result<Line, AllocError>
-    ensures { IfOk result (JudgedAs preset.entry.kind name.now preset.entry.header preset.entry.letters.now preset.entry.entries.now) }
+    ensures { let p = preset.entry in
+        IfOk result (JudgedAs p.kind name.now p.header p.letters.now p.entries.now) }
 {
     match preset.kind {
         ChargeKind::Voices => judge_charges::<Voices>(alloc, name, preset),

@@ -1,5 +1,5 @@
 // The sum of pitch classes, modulo 12.
-ghost use Rattle.std.specs.Prelude.{◌≡◌, ◌+◌, ◌-◌, ◌%◌, ◌<◌, Decides};
+ghost use Rattle.std.specs.Prelude.{◌≡◌, ◌+◌, ◌-◌, ◌%◌, ◌<◌, ◌↔◌, IsTrue};
 ghost use Rattle.charge.specs.Kinds.{pitch};
 ghost use Rattle.charge.specs.Ranges.{pitch_end};
 
@@ -22,7 +22,7 @@ fn class_opposite(a: u8) -> u8
 
 // Stands by itself so that the check proves it with no answer, and refuses an edit of it here.
 fn equal_classes(a: u8, b: u8) -> bool
-    ensures { Decides result (a ≡ b) }
+    ensures { IsTrue result ↔ (a ≡ b) }
 {
     a == b
 }

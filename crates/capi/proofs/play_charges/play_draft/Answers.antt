@@ -1,4 +1,5 @@
 use Rattle.std.proofs.Common.{map, length, subst}
+use Rattle.bench.specs.States.{draft_bench}
 use Rattle.bench.specs.Verdicts.{judge_found}
 use Rattle.bench.proofs.Searches.{sizes-pass}
 use Rattle.player.specs.Answers.{strips}
@@ -19,7 +20,8 @@ returns g c =
     let script = map (script_call a.rings.now) a.script.now in
     let new = c.play_judged.new in
     let told = c.in_ok-verdict.ensures in
-    let found = judge_found K (length a.crossings.now) (length a.ring.now) r d in
-    play-finds K S r d handed script (g.R.Rule.lawful parts.rule) (g.D.Density.lawful K parts.density) (sizes-pass a.draft.sizes r d a.draft.sized)
-    found told.right new.cells a.answers.now new.answers c.in_ok-verdict.verdict c.play_judged.result told.answer c.play_judged.ensures.found
-    (subst (λ p. AnsweredIf K S (g.R.Rule.meaning p.rule) (g.D.Density.weights K p.density) handed script c.play_judged.result new.cells a.answers.now new.answers) told.parts c.play_judged.ensures.answered)
+    let b = draft_bench a.draft in
+    let found = judge_found b (length a.crossings.now) (length a.ring.now) in
+    play-finds K S r d handed script (g.R.Rule.lawful parts.rule) (g.D.Density.lawful K parts.density) (sizes-pass a.draft.sizes b a.draft.sized)
+    found told.judged.right new.cells a.answers.now new.answers c.in_ok-verdict.verdict c.play_judged.result told.judged.answer c.play_judged.ensures.found
+    (subst (λ p. AnsweredIf K S (g.R.Rule.meaning p.rule) (g.D.Density.weights K p.density) handed script c.play_judged.result new.cells a.answers.now new.answers) told.handed c.play_judged.ensures.answered)

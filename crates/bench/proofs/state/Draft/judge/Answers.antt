@@ -1,28 +1,32 @@
-use Rattle.std.proofs.Common.{length}
-use Rattle.std.specs.Option.{option_map}
-use Rattle.automaton.specs.Meanings.{next, total}
-use Rattle.bench.specs.Verdicts.{broken}
+use Rattle.std.proofs.Common.{length, rules}
+use Rattle.bench.specs.States.{draft_bench}
+use Rattle.bench.specs.Verdicts.{lent}
 use Rattle.bench.proofs.Rights.{verdict_right}
 use Rattle.bench.proofs.Searches.{only_short, sizes-pass}
 use Rattle.bench.proofs.Whole.{verdict_whole}
 use Rattle.bench.proofs.state.Draft.judge.Goals as goal
 
-pub returns-in-Ok-clause-right : goal.returns-in-Ok-clause-right
-returns-in-Ok-clause-right g c =
+pub returns-in-Ok-clause-judged : goal.returns-in-Ok-clause-judged
+returns-in-Ok-clause-judged g c =
     let K = g.C.Charge.kind in
-    verdict_right K _ _ _ _ (g.R.Rule.lawful c.args.self.parts.rule) (g.D.Density.lawful K c.args.self.parts.density)
+    record {
+      answer = search rules;
+      refused = search rules;
+      left = c.in-Ok.ensures.left;
+      right = verdict_right K (length c.args.crossings.now) (length c.args.ring.now) (draft_bench c.args.self) (g.R.Rule.lawful c.args.self.parts.rule) (g.D.Density.lawful K c.args.self.parts.density);
+      whole = verdict_whole;
+    }
 
-pub returns-in-Ok-clause-whole : goal.returns-in-Ok-clause-whole
-returns-in-Ok-clause-whole g c = verdict_whole
-
-pub returns-in-Err-clause-refused : goal.returns-in-Err-clause-refused
-returns-in-Err-clause-refused g c =
+pub returns-in-Err-clause-judged : goal.returns-in-Err-clause-judged
+returns-in-Err-clause-judged g c =
     let K = g.C.Charge.kind in
     let draft = c.args.self in
-    let r = g.R.Rule.meaning draft.parts.rule in
-    let d = g.D.Density.weights K draft.parts.density in
-    only_short K (length c.args.crossings.now) (length c.args.ring.now) r d
-    (option_map (broken (total K.group d) (λ ring. total K.group d (next r ring)))) _ (sizes-pass draft.sizes r d draft.sized) c.in-Err.ensures.answer
-
-pub returns-in-Err-clause-whole : goal.returns-in-Err-clause-whole
-returns-in-Err-clause-whole g c = verdict_whole
+    let b = draft_bench draft in
+    let old = lent c.args.crossings.now c.args.ring.now in
+    record {
+      answer = search rules;
+      refused = only_short b (length old.crossings) (length old.ring) _ (sizes-pass draft.sizes b draft.sized) c.in-Err.ensures.answer;
+      left = c.in-Err.ensures.left;
+      right = verdict_right K (length old.crossings) (length old.ring) b (g.R.Rule.lawful draft.parts.rule) (g.D.Density.lawful K draft.parts.density);
+      whole = verdict_whole;
+    }

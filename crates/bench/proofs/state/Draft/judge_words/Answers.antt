@@ -1,3 +1,4 @@
+use Rattle.bench.specs.States.{draft_bench}
 use Rattle.bench.proofs.Searches.{sizes-pass, rule_list-same, left_passed}
 use Rattle.bench.proofs.state.Draft.judge_words.Goals as goal
 
@@ -6,8 +7,7 @@ returns g c =
     let K = g.C.Charge.kind in
     let draft = c.args.self.now in
     let e = draft.sized in
-    let r = g.R.Rule.meaning draft.parts.rule in
-    let d = g.D.Density.weights K draft.parts.density in
-    let same = rule_list-same K draft.sizes r d e.0 e.1 e.2 e.3 e.4 in
-    let l = left_passed K _ _ _ _ _ _ c.args.crossings.now c.examine.new.crossings c.args.ring.now c.examine.new.ring (sizes-pass draft.sizes r d e) same c.examine.ensures.answer c.examine.ensures.crossings c.examine.ensures.ring in
-    record { answer = l.answer; crossings = l.crossings; ring = l.ring }
+    let b = draft_bench draft in
+    let same = rule_list-same K draft.sizes b.rule b.density e.0 e.1 e.2 e.3 e.4 in
+    let l = left_passed K _ _ _ _ _ _ (sizes-pass draft.sizes b e) same c.examine.ensures.answer c.examine.ensures.crossings c.examine.ensures.ring in
+    record { answer = l.answer; left = l.left }

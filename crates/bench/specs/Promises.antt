@@ -1,0 +1,30 @@
+-- What judging a bench and comparing two densities promise. Assumes nothing.
+use Rattle.std.specs.Prelude.{◌≡◌, length, Option, Result, IsOkUnless}
+use Rattle.fault.specs.declared.Fault.{Fault}
+use Rattle.fault.specs.declared.Stop.TheVariants.{ShortStrip}
+use Rattle.fault.specs.Refusals.{refused_at}
+use Rattle.charge.specs.Groups.{Kind}
+use Rattle.automaton.specs.Meanings.{Weights}
+use Rattle.bench.specs.declared.state.Break.{Break}
+use Rattle.bench.specs.declared.state.Refused.{Refused}
+use Rattle.bench.specs.declared.state.Verdict.{Verdict}
+use Rattle.bench.specs.Benches.{Bench}
+use Rattle.bench.specs.Answers.{judge_said, compare_said}
+use Rattle.bench.specs.Laws.{VerdictRight, VerdictWhole, ComparisonRight, ComparisonWhole}
+use Rattle.bench.specs.Verdicts.{Lent, judge_found, judging, JudgeLeaves, compare_found, comparing, CompareLeaves}
+
+-- Judging a bench: what is answered, and what is left on the strips, by the strips before. Only a strip too short is
+-- refused. The verdict is right of rings of every length, and on voices of whole numbers without bounds.
+pub record Judges {C H B S : Type 0} {K : Kind C} (b : Bench K) (old : Lent C) (result : Result (Verdict C H B) (Refused S)) (new : Lent C) : Type 0 where
+  pub answer : judge_said K result ≡ judging b (length old.crossings) (length old.ring)
+  pub refused : IsOkUnless (judge_said K result) (refused_at ShortStrip 0)
+  pub left : JudgeLeaves b old new
+  pub right : VerdictRight b (judge_found b (length old.crossings) (length old.ring))
+  pub whole : VerdictWhole
+
+-- Comparing two densities, likewise.
+pub record Compares {C : Type 0} (K : Kind C) (d e : Weights K.group.Carrier) (old : Lent C) (result : Result (Option (Break C)) Fault) (new : Lent C) : Type 0 where
+  pub answer : compare_said K result ≡ comparing K d e (length old.crossings) (length old.ring)
+  pub left : CompareLeaves K d e old new
+  pub right : ComparisonRight K d e (compare_found K d e (length old.crossings) (length old.ring))
+  pub whole : ComparisonWhole
