@@ -5,4 +5,5 @@ pub mod Rights
 pub mod Coded
 pub mod Fits
 pub mod Searches
+pub mod Known
 pub mod Nexts

@@ -1,11 +1,11 @@
 -- What judging a bench and comparing two densities promise. Assumes nothing.
-use Rattle.std.specs.Prelude.{◌≡◌, length, Option, Result, IsOkUnless}
+use Rattle.std.specs.Prelude.{◌≡◌, length, Result, IsOkUnless}
 use Rattle.fault.specs.declared.Fault.{Fault}
 use Rattle.fault.specs.declared.Stop.TheVariants.{ShortStrip}
 use Rattle.fault.specs.Refusals.{refused_at}
 use Rattle.charge.specs.Groups.{Kind}
 use Rattle.automaton.specs.Meanings.{Weights}
-use Rattle.bench.specs.declared.state.Break.{Break}
+use Rattle.bench.specs.declared.state.Comparison.{Comparison}
 use Rattle.bench.specs.declared.state.Refused.{Refused}
 use Rattle.bench.specs.declared.state.Verdict.{Verdict}
 use Rattle.bench.specs.Benches.{Bench}
@@ -23,7 +23,7 @@ pub record Judges {C H B S : Type 0} {K : Kind C} (b : Bench K) (old : Lent C) (
   pub whole : VerdictWhole
 
 -- Comparing two densities, likewise.
-pub record Compares {C : Type 0} (K : Kind C) (d e : Weights K.group.Carrier) (old : Lent C) (result : Result (Option (Break C)) Fault) (new : Lent C) : Type 0 where
+pub record Compares {C : Type 0} (K : Kind C) (d e : Weights K.group.Carrier) (old : Lent C) (result : Result (Comparison C) Fault) (new : Lent C) : Type 0 where
   pub answer : compare_said K result ≡ comparing K d e (length old.crossings) (length old.ring)
   pub left : CompareLeaves K d e old new
   pub right : ComparisonRight K d e (compare_found K d e (length old.crossings) (length old.ring))

@@ -6,7 +6,7 @@ ghost use Rattle.bench.specs.Promises.{Compares};
 ghost use Rattle.bench.specs.Verdicts.{lent, compare_found, comparing, CompareLeaves};
 
 use crate::sizes::TwoSizes;
-use crate::state::Break;
+use crate::state::{Break, Comparison};
 use crate::two_label::TwoLabel;
 use automaton::{Density, total};
 use charge::Charge;
@@ -42,7 +42,7 @@ fn compare_on<C: Charge, D: Density<C>, E: Density<C>>(
     second: &E,
     crossings: &mut [C],
     ring: &mut [u8],
-) -> Result<Option<Break<C>>, Fault>
+) -> Result<Comparison<C>, Fault>
     ensures answer { let d = D.weights C.kind first.now in
         let e = E.weights C.kind second.now in
         compare_said C.kind result
@@ -51,10 +51,10 @@ fn compare_on<C: Charge, D: Density<C>, E: Density<C>>(
         (lent crossings.old ring.old) (lent crossings.new ring.new) }
 {
     let Some(Failure { word, len }) = compare_words(first, second, crossings, ring)? else {
-        return Ok(None);
+        return Ok(Comparison::Agree);
     };
     let shown = &ring[..len];
-    Ok(Some(Break {
+    Ok(Comparison::Differ(Break {
         word,
         len,
         first: total(first, shown)?,
@@ -62,15 +62,15 @@ fn compare_on<C: Charge, D: Density<C>, E: Density<C>>(
     }))
 }
 
-// The word that fails and the ring that shows it, if some ring of any length has two totals. Fills the front of one
-// strip with the crossings, and where the densities differ writes that ring to the front of the other. The strips make
-// no struct, as for the judge.
+// Whether the two densities agree on the total of every ring of any length, or else the word that fails and a ring with
+// two totals. Fills the front of one strip with the crossings, and where the densities differ writes that ring to the
+// front of the other. The strips make no struct, as for the judge.
 pub fn compare<C: Charge, D: Density<C>, E: Density<C>>(
     first: &D,
     second: &E,
     crossings: &mut [C],
     ring: &mut [u8],
-) -> Result<Option<Break<C>>, Fault>
+) -> Result<Comparison<C>, Fault>
     ensures { Compares C.kind (D.weights C.kind first.now) (E.weights C.kind second.now)
         (lent crossings.old ring.old) result (lent crossings.new ring.new) }
 {

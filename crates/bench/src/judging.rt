@@ -2,10 +2,11 @@
 ghost use Rattle.std.specs.Prelude.{◌≡◌, length, Ok};
 ghost use Rattle.automaton.specs.Making.{charged};
 ghost use Rattle.criterion.specs.Answers.{seen, with_length};
-ghost use Rattle.bench.specs.Answers.{breaks_mean, verdict_means, verdict_parts, draft_said, found_said, broken_said};
+ghost use Rattle.bench.specs.Answers.{breaks_mean, verdict_means, draft_said, found_said, broken_said};
 ghost use Rattle.bench.specs.Benches.{bench_of, total_before, total_after};
+ghost use Rattle.bench.specs.Laws.{KnownBy};
 ghost use Rattle.bench.specs.Promises.{Judges};
-ghost use Rattle.bench.specs.States.{draft_bench, HandsIn, HandsOn};
+ghost use Rattle.bench.specs.States.{draft_bench, draft_parts, judged_parts, HandsIn, HandsOn};
 ghost use Rattle.bench.specs.Verdicts.{ShownRing, bench_checked, broken, lent, judge_found, judge_break, JudgeLeaves, verdict_of};
 
 use crate::next_words::NextWords;
@@ -19,20 +20,21 @@ use fault::Fault;
 use std::marker::PhantomData;
 
 // What a draft is once it is judged.
-pub type Judged<C, R, D> = Verdict<C, Holding<C, R, D>, Breaking<R, D>>;
+pub type Judged<C, R, D> = Verdict<C, Holding<C, R, D>, Breaking<C, R, D>>;
 
 // The bench in the state that a break, or none, puts it into.
 fn verdict_of<C: Charge, R: Rule, D: Density<C>>(
     draft: Draft<C, R, D>,
     found: Option<Break<C>>,
 ) -> Judged<C, R, D>
+    requires { KnownBy (draft_bench draft) found }
     ensures verdict { verdict_means C.kind result ≡ verdict_of (breaks_mean C.kind found) }
-    ensures parts { verdict_parts (λ h. h.parts) (λ b. b.parts) result ≡ draft.parts }
+    ensures parts { judged_parts result ≡ draft_parts draft }
 {
     let Draft { parts, sizes, kind } = draft;
     match found {
         None => Verdict::Holds(Holding { parts, sizes, kind }),
-        Some(found) => Verdict::Breaks(Breaking { parts }, found),
+        Some(found) => Verdict::Breaks(Breaking { parts, kind }, found),
     }
 }
 

@@ -16,5 +16,5 @@ pub use holding::SiteCrossings;
 pub use judging::Judged;
 pub use next_words::NextWords;
 pub use rule_label::RuleLabel;
-pub use state::{Break, Breaking, Draft, Holding, Parts, Refused, Verdict};
+pub use state::{Break, Breaking, Comparison, Draft, Holding, Parts, Refused, Verdict};
 pub use two_label::TwoLabel;

@@ -1,5 +1,6 @@
 // The states of a bench, moved from call to call: drafted, and after its one verdict holding or breaking.
 ghost use Rattle.std.specs.Prelude.{◌≡◌};
+ghost use Rattle.bench.specs.Laws.{KeepsTotal, KeepsTotal-prop, ChangesTotal};
 ghost use Rattle.bench.specs.Sized.{SizesOf};
 
 use crate::sizes::RuleSizes;
@@ -24,19 +25,25 @@ pub struct Draft<C: Charge, R: Rule, D: Density<C>> {
     ghost sized: { SizesOf sizes (R.meaning parts.rule) (D.weights C.kind parts.density) },
 }
 
-// A bench on which no ring changes its total.
+// A bench on which no ring changes its total: its type says so, and none can be made of another bench.
 #[derive(Drop)]
 pub struct Holding<C: Charge, R: Rule, D: Density<C>> {
     pub(crate) parts: Parts<R, D>,
     pub(crate) sizes: RuleSizes,
     pub(crate) kind: PhantomData<C>,
     ghost sized: { SizesOf sizes (R.meaning parts.rule) (D.weights C.kind parts.density) },
+    pub ghost holds: { KeepsTotal C.kind.group (R.meaning parts.rule)
+        (D.weights C.kind parts.density) } by { KeepsTotal-prop C.kind (R.meaning parts.rule)
+        (D.weights C.kind parts.density) },
 }
 
-// A bench on which some ring changes its total.
+// A bench on which some ring changes its total: its type says so, too.
 #[derive(Drop)]
-pub struct Breaking<R, D> {
+pub struct Breaking<C: Charge, R: Rule, D: Density<C>> {
     pub(crate) parts: Parts<R, D>,
+    pub(crate) kind: PhantomData<C>,
+    pub ghost breaks: { ChangesTotal C.kind.group (R.meaning parts.rule)
+        (D.weights C.kind parts.density) },
 }
 
 // A failing word by its code, the length of the ring that shows it, and two totals of that ring: before and after one
@@ -67,6 +74,27 @@ impl<C: Drop, H: Drop, B: Drop> Verdict<C, H, B> {
         match self {
             Verdict::Holds(_) => None,
             Verdict::Breaks(_, found) => Some(found),
+        }
+    }
+}
+
+// What comparing two densities says: they agree on the total of every ring, or differ on the ring that is shown.
+#[derive(Clone, Copy, PartialEq, Eq, Debug)]
+pub enum Comparison<C> {
+    Agree,
+    Differ(Break<C>),
+}
+
+impl<C: Drop> Comparison<C> {
+    ghost use Rattle.bench.specs.Answers.{difference_of};
+
+    // The difference, if there is one.
+    pub fn found(self) -> Option<Break<C>>
+        ensures { result ≡ difference_of self }
+    {
+        match self {
+            Comparison::Agree => None,
+            Comparison::Differ(found) => Some(found),
         }
     }
 }
