@@ -1,7 +1,5 @@
 -- What the bench's verdicts say of rings. Assumes nothing.
-use Rattle.std.specs.Prelude.{◌≡◌, ℕ, ◌+◌, ◌-◌, ◌*◌, ◌^◌, ◌<◌, ◌≤◌, max, Bool, true, false, Decides, refl, ◌↔◌, List, map, length, ℤ, pos, ◌+ℤ◌, neg_ℤ, Some, None, Ok, Err, Option, Result, ◌≢◌, slice_index_or}
-use mathlib.Core.HLevel.{hedberg, Π_prop}
-use Rattle.std.proofs.lemmas.Bool.{false≢true}
+use Rattle.std.specs.Prelude.{◌≡◌, ℕ, ◌+◌, ◌-◌, ◌*◌, ◌^◌, ◌<◌, ◌≤◌, max, true, ◌↔◌, List, map, length, ℤ, pos, ◌+ℤ◌, neg_ℤ, Some, None, Ok, Err, Option, Result, ◌≢◌, slice_index_or}
 use Rattle.std.proofs.Math.IntN.{+ℤ_assoc, +ℤ_comm, +ℤ_idl, +ℤ_invr}
 use Rattle.fault.specs.Limits.{most_window, most_width}
 use Rattle.fault.specs.Refusals.{Refusal}
@@ -32,26 +30,18 @@ SameTotals G d e = Agree d.q (total G d) (total G e)
 abbrev pub Apart : {X : Type 0} → ℕ → ℕ → (List ℕ → X) → (List ℕ → X) → List ℕ → Type 0
 Apart q most A B c = (1 ≤ length c) × (length c ≤ most) × Letters q c × (A c ≢ B c)
 
--- some ring changes its total in a step, one of at most 2 (n + k) - 3 cells
-abbrev pub ChangesTotal : (G : Group) → Local → Weights G.Carrier → Type 0
-ChangesTotal G r d = ∥ ((c : List ℕ) × Apart r.q (2 * (r.n + d.k) - 3) (λ c. total G d (next r c)) (total G d) c) ∥₁
+-- What the type of a bench says of its rings: none changes its total in a step, or some ring does, of at most
+-- 2 (n + k) - 3 cells. Each is the bare fact, without its proof.
+abbrev pub NoneChanges : (G : Group) → Local → Weights G.Carrier → Type 0
+NoneChanges G r d = ∥ KeepsTotal G r d ∥₁
 
--- That no ring changes its total has at most one proof, as a fact must that a type keeps: the charges of a kind are told
--- apart.
-carrier-set : {C : Type 0} (K : Kind C) → IsSet K.group.Carrier
-carrier-set K = hedberg (λ x y. told (K.same x y) (K.decides x y))
-  where
-    told : {X : Type 0} (b : Bool) → Decides b X → Dec X
-    told true d = yes (d.0 refl)
-    told false d = no (λ x. false≢true (d.1 x))
-
-pub KeepsTotal-prop : {C : Type 0} (K : Kind C) (r : Local) (d : Weights K.group.Carrier) → IsProp (KeepsTotal K.group r d)
-KeepsTotal-prop K r d = Π_prop (λ c. Π_prop (λ long. Π_prop (λ below. carrier-set K _ _)))
+abbrev pub SomeChanges : (G : Group) → Local → Weights G.Carrier → Type 0
+SomeChanges G r d = ∥ ((c : List ℕ) × Apart r.q (2 * (r.n + d.k) - 3) (λ c. total G d (next r c)) (total G d) c) ∥₁
 
 -- what is known of a bench once the break is found, or none
 abbrev pub KnownBy : {X C : Type 0} {K : Kind C} → Bench K → Option X → Type 0
-KnownBy {X} {C} {K} b None = KeepsTotal K.group b.rule b.density
-KnownBy {X} {C} {K} b (Some x) = ChangesTotal K.group b.rule b.density
+KnownBy {X} {C} {K} b None = NoneChanges K.group b.rule b.density
+KnownBy {X} {C} {K} b (Some x) = SomeChanges K.group b.rule b.density
 
 -- What is found, if nothing is refused: under "holds" no ring changes its total, and the crossings are the only table
 -- that balances; otherwise the ring shown changes its total, and has at most 2 (n + k) - 3 cells.

@@ -1,6 +1,6 @@
 // The states of a bench, moved from call to call: drafted, and after its one verdict holding or breaking.
 ghost use Rattle.std.specs.Prelude.{◌≡◌};
-ghost use Rattle.bench.specs.Laws.{KeepsTotal, KeepsTotal-prop, ChangesTotal};
+ghost use Rattle.bench.specs.Laws.{NoneChanges, SomeChanges};
 ghost use Rattle.bench.specs.Sized.{SizesOf};
 
 use crate::sizes::RuleSizes;
@@ -32,8 +32,7 @@ pub struct Holding<C: Charge, R: Rule, D: Density<C>> {
     pub(crate) sizes: RuleSizes,
     pub(crate) kind: PhantomData<C>,
     ghost sized: { SizesOf sizes (R.meaning parts.rule) (D.weights C.kind parts.density) },
-    pub ghost holds: { KeepsTotal C.kind.group (R.meaning parts.rule)
-        (D.weights C.kind parts.density) } by { KeepsTotal-prop C.kind (R.meaning parts.rule)
+    pub ghost holds: { NoneChanges C.kind.group (R.meaning parts.rule)
         (D.weights C.kind parts.density) },
 }
 
@@ -42,7 +41,7 @@ pub struct Holding<C: Charge, R: Rule, D: Density<C>> {
 pub struct Breaking<C: Charge, R: Rule, D: Density<C>> {
     pub(crate) parts: Parts<R, D>,
     pub(crate) kind: PhantomData<C>,
-    pub ghost breaks: { ChangesTotal C.kind.group (R.meaning parts.rule)
+    pub ghost breaks: { SomeChanges C.kind.group (R.meaning parts.rule)
         (D.weights C.kind parts.density) },
 }
 

@@ -14,5 +14,6 @@ pub mod Steps
 pub mod Scripts
 pub mod Wide
 pub mod Plays
+pub mod Staying
 pub mod Whole
 pub mod Near

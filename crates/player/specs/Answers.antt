@@ -62,6 +62,15 @@ module _ {C : Type 0} (K : Kind C) where
   open_said (Ok p) = done
   open_said (Err e) = refused (refusal e.fault)
 
+-- what a script is answered, by what the call answers
+abbrev pub done_answer : {C : Type 0} → Result (Unit {0}) Fault → Answered C
+done_answer (Ok t) = Done
+done_answer (Err f) = Refused_by f
+
+abbrev pub read_answer : {C : Type 0} → Result (Reading C) Fault → Answered C
+read_answer (Ok m) = Read_as m
+read_answer (Err f) = Refused_by f
+
 -- how many cells the open ring has, 0 where none is open
 abbrev pub open_cells : {H P : Type 0} → (P → ℕ) → Player H P → ℕ
 open_cells cells (Idle h) = 0

@@ -1,9 +1,9 @@
 -- Logs of a player's calls, the plain ring, and what holds on each line of a log without gaps. Assumes nothing.
-use Rattle.std.specs.Prelude.{◌≡◌, ℕ, ◌+◌, ◌≤◌, Bool, true, List, [], length, Ok, nat_le, nat_eq}
+use Rattle.std.specs.Prelude.{◌≡◌, ℕ, ◌+◌, ◌≤◌, max, Bool, true, List, [], length, Ok, nat_le, nat_eq}
 use Rattle.charge.specs.Groups.{Group, Kind, minus, sum_over}
 use Rattle.automaton.specs.Words.{round}
 use Rattle.automaton.specs.Meanings.{Local, Weights, Lawful, Weighed}
-use Rattle.bench.specs.Benches.{bench_of}
+use Rattle.bench.specs.Benches.{Bench, bench_of}
 use Rattle.bench.specs.Laws.{KeepsTotal}
 use Rattle.bench.specs.Verdicts.{bench_checked}
 use Rattle.player.specs.Calls.{Call, Answer, Ring, Strips, Outcome, size, checked, passed_or, front, charges, work, answer, Does}
@@ -67,6 +67,18 @@ standing made = no_ring
 standing (log then line) =
     let p = standing log in
     accepted line.got.said (ended line.call (used line.call (front (size line.call (length p.cells)) line.got.left) p)) p
+
+-- how many cells the ring has that a call opens, and the longest ring that was opened in a log
+abbrev pub ring_opened : Call → ℕ
+ring_opened (opens ring) = length ring
+ring_opened (touches i a) = 0
+ring_opened steps = 0
+ring_opened (reads i) = 0
+ring_opened closes = 0
+
+abbrev pub longest_opened : {A : Type 0} → Log A → ℕ
+longest_opened made = 0
+longest_opened (log then line) = max (longest_opened log) (accepted line.got.said (ring_opened line.call) 0)
 
 -- a touch, a step and a read are handed what stands, in the first L entries of the strips that they read or write
 abbrev pub HandedOn : {A : Type 0} → Call → Strips A → Ring A → Type 0
@@ -137,7 +149,11 @@ module _ {C : Type 0} (K : Kind C) (r : Local) (d : Weights K.group.Carrier) whe
     pub rings : standing (log then line) ≡ plain (log then line)
     pub arcs : ArcsAgree (standing (log then line))
 
--- from the making of a bench that holds, on every line of a log without gaps
+-- on every line of every log without gaps of a bench
+abbrev pub LogsTrueOn : {C : Type 0} {K : Kind C} → Bench K → Type 0
+LogsTrueOn {C} {K} b = (log : Log K.group.Carrier) → WithoutGaps K b.rule b.density log → OnEveryLine (LineTrue K b.rule b.density) log
+
+-- of every bench that holds
 abbrev pub LogsTrue : {C : Type 0} → Kind C → Type 0
 LogsTrue K = (r : Local) (d : Weights K.group.Carrier) → Lawful r → Weighed d → bench_checked (bench_of K r d) ≡ Ok tt → KeepsTotal K.group r d →
-    (log : _) → WithoutGaps K r d log → OnEveryLine (LineTrue K r d) log
+    LogsTrueOn (bench_of K r d)

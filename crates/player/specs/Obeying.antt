@@ -1,8 +1,11 @@
 -- What a player answers to a call and to a script, by the ring that is open. Assumes nothing.
-use Rattle.std.specs.Prelude.{ℕ, List, Option}
+use Rattle.std.specs.Prelude.{◌≡◌, ℕ, List, length, drop, Some, None, Option}
 use Rattle.charge.specs.Groups.{Kind}
+use Rattle.player.specs.declared.call.Answer.{Answer as Answered}
+use Rattle.player.specs.declared.call.Answer.TheVariants.{Done, Reading as Read_as, Refused as Refused_by}
 use Rattle.bench.specs.Benches.{Bench}
 use Rattle.player.specs.Calls.{Call, Answer, Strips}
+use Rattle.player.specs.Calls.Call.{opens, touches, steps, reads, closes}
 use Rattle.player.specs.Promises.{OpenRing, meant}
 use Rattle.player.specs.Scripts.{Played, said_to, left_by, cells_after, played}
 
@@ -16,6 +19,38 @@ module _ {C : Type 0} {K : Kind C} (ring : OpenRing K) (call : Call) (s : Strips
 
   abbrev pub cells_on : ℕ
   cells_on = cells_after K ring.bench.rule ring.bench.density ring.len call (meant K s)
+
+-- how many charges at the front of the strips for opening, crossed and touched are written
+pub record Written : Type 0 where
+  pub opening : ℕ
+  pub crossed : ℕ
+  pub touched : ℕ
+
+abbrev pub front_of_all : ℕ → Written
+front_of_all n = record { opening = n; crossed = n; touched = n }
+
+-- An accepted call on a ring of L cells writes at most these: an open the sites of its ring, a touch what is touched, a
+-- step what has crossed, and the others none.
+abbrev pub written_by : Call → ℕ → Written
+written_by (opens ring) L = front_of_all (length ring)
+written_by (touches i a) L = record { opening = 0; crossed = 0; touched = L }
+written_by steps L = record { opening = 0; crossed = L; touched = 0 }
+written_by (reads i) L = front_of_all 0
+written_by closes L = front_of_all 0
+
+-- a call that has no answer or is refused writes none
+abbrev pub written : {C : Type 0} → Option (Answered C) → Call → ℕ → Written
+written None call L = front_of_all 0
+written (Some (Refused_by f)) call L = front_of_all 0
+written (Some Done) call L = written_by call L
+written (Some (Read_as m)) call L = written_by call L
+
+-- past what is written the charges stay: the charges themselves, and not only what they mean
+abbrev pub StaysPast : {C : Type 0} → Written → Strips C → Strips C → Type 0
+StaysPast n old new =
+    (drop n.opening new.opening ≡ drop n.opening old.opening)
+    × (drop n.crossed new.crossed ≡ drop n.crossed old.crossed)
+    × (drop n.touched new.touched ≡ drop n.touched old.touched)
 
 -- a script that is played on a bench
 abbrev pub played_on : {C : Type 0} {K : Kind C} → Bench K → Strips C → List Call → Played K.group.Carrier

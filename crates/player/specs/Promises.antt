@@ -1,5 +1,6 @@
 -- What the calls on an open ring promise, by the strips that a caller lends. Assumes nothing.
 use Rattle.std.specs.Prelude.{◌≡◌, ℕ, List, [], length, map, take, set, Ok, Err, Result}
+use Rattle.std.specs.Borrow.{MutBor}
 use Rattle.fault.specs.Refusals.{Refusal}
 use Rattle.charge.specs.Groups.{Kind, minus}
 use Rattle.criterion.specs.Strips.{FrontMeans}
@@ -15,6 +16,7 @@ use Rattle.player.specs.declared.player.Player.{Player}
 use Rattle.bench.specs.Answers.{verdict_parts}
 use Rattle.bench.specs.Benches.{Bench}
 use Rattle.bench.specs.States.{holding_bench, rule_of, density_of, holding_of}
+use Rattle.player.specs.declared.ledger.Ledger.{Ledger}
 use Rattle.player.specs.declared.playing.Playing.{Playing}
 use Rattle.player.specs.declared.sites.Sites.{Sites}
 use Rattle.player.specs.declared.sites.Crossings.{Crossings}
@@ -51,7 +53,7 @@ module _ {C R D : Type 0} {c : ChargeOf C} {r : RuleOf R} {d : DensityOf D C} wh
   player_ring p = record { bench = holding_bench (player_holding p); len = open_cells ring_len p }
 
   -- what is performed hands on the rule and the density of a draft, and a refusal the draft as it is
-  abbrev pub HandsOnPlayer : Draft C R D c r d → Result (Verdict C (Player (Holding C R D c r d) (Playing C R D c r d)) (Breaking R D)) (Refused (Draft C R D c r d)) → Type 0
+  abbrev pub HandsOnPlayer : Draft C R D c r d → Result (Verdict C (Player (Holding C R D c r d) (Playing C R D c r d)) (Breaking C R D c r d)) (Refused (Draft C R D c r d)) → Type 0
   HandsOnPlayer draft (Ok verdict) = verdict_parts (λ p. (player_holding p).parts) (λ b. b.parts) verdict ≡ draft.parts
   HandsOnPlayer draft (Err e) = e.state ≡ draft
 
@@ -100,6 +102,16 @@ all_strips cells spare opening crossed touched = record { cells = cells; spare =
 abbrev pub meter_strips : {C : Type 0} → List ℕ → List C → List C → List C → Strips C
 meter_strips cells opening crossed touched = record { cells = cells; spare = []; opening = opening; crossed = crossed; touched = touched }
 
+-- the charges of a ledger's sites as they stand, and that two ledgers, or a ledger and what is lent, are over one strip
+abbrev pub ledger_charges : {C : Type 0} → Ledger C → List C
+ledger_charges l = l.sites.now
+
+abbrev pub IsOver : {C : Type 0} → MutBor (List C) → Ledger C → Type 0
+IsOver strip l = l.sites.ghost_name ≡ strip.ghost_name
+
+abbrev pub SameStrip : {C : Type 0} → Ledger C → Ledger C → Type 0
+SameStrip l m = m.sites.ghost_name ≡ l.sites.ghost_name
+
 -- strips by what their charges mean
 abbrev pub meant : {C : Type 0} → (K : Kind C) → Strips C → Strips K.group.Carrier
 meant K s = strips K s.cells s.spare s.opening s.crossed s.touched
@@ -113,6 +125,6 @@ module _ {C : Type 0} {K : Kind C} (ring : OpenRing K) where
   abbrev pub DoesOn : Call → Strips C → Answer K.group.Carrier → Strips C → Type 0
   DoesOn call old said new = Does K ring.bench.rule ring.bench.density ring.len call (meant K old) said (meant K new)
 
-  -- a close is done whatever the strips, and leaves them
-  abbrev pub Closes : Type 0
-  Closes = (s : Strips K.group.Carrier) → Does K ring.bench.rule ring.bench.density ring.len closes s done s
+  -- a close looks at no strip: it is done whatever the strips are, and leaves them
+  abbrev pub LooksAtNone : Type 0
+  LooksAtNone = (s : Strips K.group.Carrier) → Does K ring.bench.rule ring.bench.density ring.len closes s done s

@@ -1,6 +1,6 @@
 // Closing the open ring.
 ghost use Rattle.std.specs.Prelude.{◌≡◌};
-ghost use Rattle.player.specs.Promises.{open_ring, holding_under, Closes};
+ghost use Rattle.player.specs.Promises.{open_ring, holding_under, LooksAtNone};
 
 use crate::playing::Playing;
 use automaton::{Density, Rule};
@@ -8,10 +8,11 @@ use bench::Holding;
 use charge::Charge;
 
 impl<C: Charge, R: Rule, D: Density<C>> Playing<C, R, D> {
-    // Gives the bench back, which holds as it did. No strip is looked at.
+    // Gives back the holding bench that the ring was opened on, whose type says that it holds. As a line of a log the
+    // call is done whatever the strips are, and leaves them: none is looked at.
     pub fn close(self) -> Holding<C, R, D>
-        ensures promise { Closes (open_ring self) }
-        ensures bench { result ≡ holding_under self }
+        ensures holding { result ≡ holding_under self }
+        ensures strips { LooksAtNone (open_ring self) }
     {
         let Playing { bench, len: _ } = self;
         bench

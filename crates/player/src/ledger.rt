@@ -16,17 +16,19 @@ pub struct Ledger<'a, C> {
 }
 
 impl<'a, C: Charge> Ledger<'a, C> {
+    ghost use Rattle.player.specs.Promises.{ledger_charges, IsOver, SameStrip};
+
     // The ledger of as many sites as the strip has charges.
     pub fn new(sites: &'a mut [C]) -> Ledger<'a, C>
-        ensures sites { result.sites.now ≡ sites.old }
-        ensures same { result.sites.ghost_name ≡ sites.entry.ghost_name }
+        ensures sites { ledger_charges result ≡ sites.old }
+        ensures same { IsOver sites.entry result }
     {
         Ledger { sites }
     }
 
     // How many sites there are.
     pub fn len(&mut self) -> usize
-        ensures answer { result ≡ length self.old.sites.now }
+        ensures answer { result ≡ length (ledger_charges self.old) }
         ensures kept { self.new ≡ self.old }
     {
         self.sites.len()
@@ -34,7 +36,7 @@ impl<'a, C: Charge> Ledger<'a, C> {
 
     // The charge of site i, and zero past the last site.
     pub fn at(&mut self, i: usize) -> C
-        ensures answer { let old = map C.kind.means self.old.sites.now in
+        ensures answer { let old = map C.kind.means (ledger_charges self.old) in
             C.kind.means result ≡ slice_index_or old i C.kind.group.zero }
         ensures kept { self.new ≡ self.old }
     {
@@ -47,8 +49,8 @@ impl<'a, C: Charge> Ledger<'a, C> {
 
     // Writes the charge of site i. Past the last site nothing is written.
     pub fn put(&mut self, i: usize, charge: C)
-        ensures sites { self.new.sites.now ≡ slice_set self.old.sites.now i charge }
-        ensures same { self.new.sites.ghost_name ≡ self.old.sites.ghost_name }
+        ensures sites { ledger_charges self.new ≡ slice_set (ledger_charges self.old) i charge }
+        ensures same { SameStrip self.old self.new }
     {
         if i >= self.sites.len() {
             return;
@@ -58,7 +60,7 @@ impl<'a, C: Charge> Ledger<'a, C> {
 
     // The charge of site i and another.
     fn sum_at(&mut self, i: usize, charge: C) -> C
-        ensures answer { let old = map C.kind.means self.old.sites.now in
+        ensures answer { let old = map C.kind.means (ledger_charges self.old) in
             let own = slice_index_or old i C.kind.group.zero in
             C.kind.means result ≡ C.kind.group.add own (C.kind.means charge) }
         ensures kept { self.new ≡ self.old }
@@ -68,13 +70,14 @@ impl<'a, C: Charge> Ledger<'a, C> {
 
     // Adds to the charge of site i. Past the last site nothing is written.
     pub fn add(&mut self, i: usize, charge: C)
-        ensures sites { let old = map C.kind.means self.old.sites.now in
+        ensures sites { let old = map C.kind.means (ledger_charges self.old) in
             let own = slice_index_or old i C.kind.group.zero in
-            map C.kind.means self.new.sites.now
+            map C.kind.means (ledger_charges self.new)
             ≡ slice_set old i (C.kind.group.add own (C.kind.means charge)) }
-        ensures others { (take i self.new.sites.now ≡ take i self.old.sites.now)
-            × (drop (i + 1) self.new.sites.now ≡ drop (i + 1) self.old.sites.now) }
-        ensures same { self.new.sites.ghost_name ≡ self.old.sites.ghost_name }
+        ensures others { (take i (ledger_charges self.new) ≡ take i (ledger_charges self.old))
+            × (drop (i + 1) (ledger_charges self.new)
+            ≡ drop (i + 1) (ledger_charges self.old)) }
+        ensures same { SameStrip self.old self.new }
     {
         let sum = self.sum_at(i, charge);
         self.put(i, sum);
@@ -82,9 +85,9 @@ impl<'a, C: Charge> Ledger<'a, C> {
 
     // Writes each site's charge.
     pub(crate) fn fill<S: SiteCharges<C>>(&mut self, charges: &S)
-        ensures sites { map C.kind.means self.new.sites.now
-            ≡ table (length self.old.sites.now) (S.charges C.kind charges.now) }
-        ensures same { self.new.sites.ghost_name ≡ self.old.sites.ghost_name }
+        ensures sites { map C.kind.means (ledger_charges self.new)
+            ≡ table (length (ledger_charges self.old)) (S.charges C.kind charges.now) }
+        ensures same { SameStrip self.old self.new }
     {
         for i in 0..self.sites.len() {
             self.put(i, charges.charge_at(i));
@@ -93,10 +96,10 @@ impl<'a, C: Charge> Ledger<'a, C> {
 
     // Adds to each site's charge.
     pub(crate) fn book<S: SiteCharges<C>>(&mut self, charges: &S)
-        ensures sites { let old = map C.kind.means self.old.sites.now in
-            map C.kind.means self.new.sites.now
+        ensures sites { let old = map C.kind.means (ledger_charges self.old) in
+            map C.kind.means (ledger_charges self.new)
             ≡ booked C.kind.group (S.charges C.kind charges.now) old }
-        ensures same { self.new.sites.ghost_name ≡ self.old.sites.ghost_name }
+        ensures same { SameStrip self.old self.new }
     {
         for i in 0..self.sites.len() {
             self.add(i, charges.charge_at(i));
@@ -105,12 +108,12 @@ impl<'a, C: Charge> Ledger<'a, C> {
 
     // Adds to the charges of the `count` sites up to site i, going round.
     fn book_back<S: SiteCharges<C>>(&mut self, i: usize, count: usize, charges: &S)
-        requires { (i < length self.old.sites.now) × (count ≤ length self.old.sites.now) }
-        ensures sites { let old = map C.kind.means self.old.sites.now in
-            let len = length self.old.sites.now in
+        requires { (i < length (ledger_charges self.old)) × (count ≤ length (ledger_charges self.old)) }
+        ensures sites { let old = map C.kind.means (ledger_charges self.old) in
+            let len = length (ledger_charges self.old) in
             let near = up_to C.kind.group len i count (S.charges C.kind charges.now) in
-            map C.kind.means self.new.sites.now ≡ booked C.kind.group near old }
-        ensures same { self.new.sites.ghost_name ≡ self.old.sites.ghost_name }
+            map C.kind.means (ledger_charges self.new) ≡ booked C.kind.group near old }
+        ensures same { SameStrip self.old self.new }
     {
         let len = self.sites.len();
         for t in 0..count {

@@ -5,7 +5,9 @@ ghost use Rattle.fault.specs.Refusals.{refusal};
 ghost use Rattle.automaton.specs.Words.{table};
 ghost use Rattle.criterion.specs.Strips.{FrontMeans};
 ghost use Rattle.player.specs.Calls.Call.{opens};
+ghost use Rattle.bench.specs.States.{holding_bench};
 ghost use Rattle.player.specs.Answers.{open_said, Stays};
+ghost use Rattle.player.specs.Logs.{LogsTrueOn};
 ghost use Rattle.player.specs.Promises.{ring_on, ring_len, holding_under, sites_ring, site_charges, meter_strips, tested_by, DoesOn};
 
 use crate::ledger::{book_front, fill_front};
@@ -68,7 +70,8 @@ fn open_on<C: Charge, R: Rule, D: Density<C>>(
 }
 
 impl<C: Charge, R: Rule, D: Density<C>> Playing<C, R, D> {
-    // Copies a ring to the cells, writes each site's charge to opening, and sets crossed and touched to zero.
+    // Copies a ring to the cells, writes each site's charge to opening, and sets crossed and touched to zero. The bench
+    // holds, so every log of it is true.
     pub fn open(
         bench: Holding<C, R, D>,
         ring: &[u8],
@@ -86,6 +89,7 @@ impl<C: Charge, R: Rule, D: Density<C>> Playing<C, R, D> {
         ensures bench { MatchResult result
             (λ p. (holding_under p ≡ bench) × (ring_len p ≡ length ring.now))
             (λ e. e.state ≡ bench) }
+        ensures logs { LogsTrueOn (holding_bench bench) }
     {
         match check_open(&bench, ring, cells, opening, crossed, touched) {
             Ok(ring) => {

@@ -4,7 +4,8 @@ ghost use Rattle.bench.specs.Answers.{judge_said};
 ghost use Rattle.bench.specs.States.{draft_bench};
 ghost use Rattle.bench.specs.Verdicts.{lent};
 ghost use Rattle.player.specs.Laws.{RefusalsFit, StepsOn};
-ghost use Rattle.player.specs.Logs.{LogsTrue};
+ghost use Rattle.player.specs.Logs.{longest_opened, LogsTrue};
+ghost use Rattle.player.specs.Obeying.{played_on, front_of_all, StaysPast};
 ghost use Rattle.player.specs.Answers.{strips, asked, answers_to};
 ghost use Rattle.player.specs.Promises.{all_strips, ring_len, HandsOnPlayer};
 ghost use Rattle.player.specs.Whole.{JudgedFor, VerdictTrue, CrossingsTrue, Plays, ScriptTrue, cells_open, UnlessHolds};
@@ -17,7 +18,7 @@ use charge::Charge;
 use fault::Stop;
 
 // A bench that was judged, and where it holds was played on.
-pub type Performed<C, R, D> = Verdict<C, PlayerOf<C, R, D>, Breaking<R, D>>;
+pub type Performed<C, R, D> = Verdict<C, PlayerOf<C, R, D>, Breaking<C, R, D>>;
 
 // Judges a bench, and plays a script where it holds. Apart from `perform`, whose theorems need answers of their own.
 fn perform_on<C: Charge, R: Rule, D: Density<C>>(
@@ -41,6 +42,12 @@ fn perform_on<C: Charge, R: Rule, D: Density<C>>(
         ≡ all_strips cells.old spare.old opening.old crossed.old touched.old)
         × (answers.new ≡ answers.old)
         ) }
+    ensures charges { let p = played_on (draft_bench draft)
+        (all_strips cells.old spare.old opening.old crossed.old touched.old)
+        (map asked script.now) in
+        StaysPast (front_of_all (longest_opened p.log))
+        (all_strips cells.old spare.old opening.old crossed.old touched.old)
+        (all_strips cells.new spare.new opening.new crossed.new touched.new) }
     ensures script { Plays (draft_bench draft) (judge_said C.kind result) (map asked script.now)
         (strips C.kind cells.old spare.old opening.old crossed.old touched.old)
         (strips C.kind cells.new spare.new opening.new crossed.new touched.new)
@@ -63,7 +70,8 @@ fn perform_on<C: Charge, R: Rule, D: Density<C>>(
 
 // Judges a bench, and where it holds answers each call of a script, in the order of the script; a call that the states do
 // not allow has no answer. The strips are as the judge and the player lend them, and one more is for the answers. Only a
-// strip of the judge or of the answers that is too short is refused; the player's are refused call by call.
+// strip of the judge or of the answers that is too short is refused; the player's are refused call by call. The charges
+// past the longest ring that the script opened stay as they were, and so do all where it opened none.
 pub fn perform<C: Charge, R: Rule, D: Density<C>>(
     draft: Draft<C, R, D>,
     script: &[Call<'_>],
@@ -85,6 +93,12 @@ pub fn perform<C: Charge, R: Rule, D: Density<C>>(
         ≡ all_strips cells.old spare.old opening.old crossed.old touched.old)
         × (answers.new ≡ answers.old)
         ) }
+    ensures charges { let p = played_on (draft_bench draft)
+        (all_strips cells.old spare.old opening.old crossed.old touched.old)
+        (map asked script.now) in
+        StaysPast (front_of_all (longest_opened p.log))
+        (all_strips cells.old spare.old opening.old crossed.old touched.old)
+        (all_strips cells.new spare.new opening.new crossed.new touched.new) }
     ensures verdict { VerdictTrue (draft_bench draft) (judge_said C.kind result) ring.new }
     ensures crossings { CrossingsTrue (draft_bench draft) (judge_said C.kind result)
         (map C.kind.means crossings.new) }

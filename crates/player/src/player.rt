@@ -2,10 +2,10 @@
 ghost use Rattle.std.specs.Prelude.{◌≡◌, ◌≤◌, map, length, drop};
 ghost use Rattle.std.specs.Option.{option_map};
 ghost use Rattle.bench.specs.States.{holding_bench};
-ghost use Rattle.player.specs.Answers.{asked, answered, answers_to, done_said, read_said, open_cells};
-ghost use Rattle.player.specs.Logs.{standing};
+ghost use Rattle.player.specs.Answers.{asked, answered, answers_to, done_said, read_said, done_answer, read_answer, open_cells};
+ghost use Rattle.player.specs.Logs.{standing, longest_opened, LogsTrueOn};
 ghost use Rattle.player.specs.Promises.{all_strips, meant, ring_on, ring_len, open_ring, player_ring, player_holding, holding_under};
-ghost use Rattle.player.specs.Obeying.{said_on, left_on, cells_on, played_on};
+ghost use Rattle.player.specs.Obeying.{said_on, left_on, cells_on, played_on, written, front_of_all, StaysPast};
 
 use crate::call::{Answer, Call};
 use crate::meters::Reading;
@@ -26,7 +26,8 @@ pub enum Player<H, P> {
 pub type PlayerOf<C, R, D> = Player<Holding<C, R, D>, Playing<C, R, D>>;
 
 fn done_or_refused<C: Charge>(done: Result<(), Fault>) -> Answer<C>
-    ensures { answered C.kind result ≡ done_said C.kind done }
+    ensures meaning { answered C.kind result ≡ done_said C.kind done }
+    ensures is { result ≡ done_answer done }
 {
     match done {
         Ok(()) => Answer::Done,
@@ -35,7 +36,8 @@ fn done_or_refused<C: Charge>(done: Result<(), Fault>) -> Answer<C>
 }
 
 fn read_or_refused<C: Charge>(read: Result<Reading<C>, Fault>) -> Answer<C>
-    ensures { answered C.kind result ≡ read_said C.kind read }
+    ensures meaning { answered C.kind result ≡ read_said C.kind read }
+    ensures is { result ≡ read_answer read }
 {
     match read {
         Ok(reading) => Answer::Reading(reading),
@@ -62,6 +64,9 @@ fn obey_idle<C: Charge, R: Rule, D: Density<C>>(
     ensures cells { open_cells ring_len result.0
         ≡ cells_on (ring_on bench 0) (asked call.entry)
         (all_strips cells.old spare.now opening.old crossed.old touched.old) }
+    ensures charges { StaysPast (written result.1 (asked call.entry) 0)
+        (all_strips cells.old spare.now opening.old crossed.old touched.old)
+        (all_strips cells.new spare.now opening.new crossed.new touched.new) }
     ensures bench { player_holding result.0 ≡ bench }
 {
     let Call::Open(ring) = call else {
@@ -95,6 +100,9 @@ fn obey_playing<C: Charge, R: Rule, D: Density<C>>(
     ensures cells { open_cells ring_len result.0
         ≡ cells_on (open_ring playing) (asked call.entry)
         (all_strips cells.old spare.old opening.old crossed.old touched.old) }
+    ensures charges { StaysPast (written result.1 (asked call.entry) (open_ring playing).len)
+        (all_strips cells.old spare.old opening.old crossed.old touched.old)
+        (all_strips cells.new spare.new opening.new crossed.new touched.new) }
     ensures bench { player_holding result.0 ≡ holding_under playing }
 {
     match call {
@@ -115,7 +123,7 @@ fn obey_playing<C: Charge, R: Rule, D: Density<C>>(
     }
 }
 
-// Answers a call. One that the state does not allow has no answer.
+// Answers a call. One that the state does not allow has no answer. The bench holds, so every log of it is true.
 pub fn obey<C: Charge, R: Rule, D: Density<C>>(
     player: PlayerOf<C, R, D>,
     call: Call<'_>,
@@ -134,7 +142,11 @@ pub fn obey<C: Charge, R: Rule, D: Density<C>>(
     ensures cells { open_cells ring_len result.0
         ≡ cells_on (player_ring player) (asked call.entry)
         (all_strips cells.old spare.old opening.old crossed.old touched.old) }
+    ensures charges { StaysPast (written result.1 (asked call.entry) (player_ring player).len)
+        (all_strips cells.old spare.old opening.old crossed.old touched.old)
+        (all_strips cells.new spare.new opening.new crossed.new touched.new) }
     ensures bench { player_holding result.0 ≡ player_holding player }
+    ensures logs { LogsTrueOn (player_ring player).bench }
 {
     match player {
         Player::Idle(bench) => obey_idle(bench, call, cells, spare, opening, crossed, touched),
@@ -167,6 +179,12 @@ pub(crate) fn play<C: Charge, R: Rule, D: Density<C>>(
         (map asked script.now) in
         answers_to C.kind script.now answers.new ≡ p.said }
     ensures past { drop (length script.now) answers.new ≡ drop (length script.now) answers.old }
+    ensures charges { let p = played_on (holding_bench bench)
+        (all_strips cells.old spare.old opening.old crossed.old touched.old)
+        (map asked script.now) in
+        StaysPast (front_of_all (longest_opened p.log))
+        (all_strips cells.old spare.old opening.old crossed.old touched.old)
+        (all_strips cells.new spare.new opening.new crossed.new touched.new) }
     ensures cells { let p = played_on (holding_bench bench)
         (all_strips cells.old spare.old opening.old crossed.old touched.old)
         (map asked script.now) in

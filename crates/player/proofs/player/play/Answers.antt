@@ -1,10 +1,13 @@
-use Rattle.std.proofs.Common.{◌<◌, map, length, take, get_or, sym, ap, ◌∙◌, arith}
+use Rattle.std.proofs.Common.{◌<◌, map, length, take, get_or, sym, ap, ◌∙◌, subst, arith}
 use Rattle.std.specs.Option.{option_map}
 use Rattle.player.specs.Logs.{standing}
 use Rattle.player.specs.Answers.{strips, asked, answered}
+use Rattle.player.specs.Obeying.{written, StaysPast}
+use Rattle.player.specs.Promises.{all_strips}
 use Rattle.player.specs.Scripts.{said_to, left_by, cells_after}
 use Rattle.player.proofs.Plays.{script_more, answers_more, answers_past}
 use Rattle.player.proofs.Scripts.{cells_stand}
+use Rattle.player.proofs.Staying.{Stayed, stayed_more}
 use Rattle.player.proofs.player.play.Goals as goal
 
 pub loop-i-preserved : goal.loop-i-preserved
@@ -19,7 +22,11 @@ loop-i-preserved g c =
     let told = c.obey-next.ensures in
     let within : i < length a.script.now = omega arith in
     let more = script_more K r d first asked a.script.now i _ within in
-    let call = asked (get_or a.script.now i _) in (
+    let call = asked (get_or a.script.now i _) in
+    let answer = c.obey-next.result.1 in
+    let now = c.loop-i in
+    let new = c.obey-next.new in
+    let said = told.said ∙ (λ j. said_to K (g.R.Rule.meaning (inv.0 j).parts.rule) (g.D.Density.weights K (inv.0 j).parts.density) (inv.1 j) call (inv.2 j)) in (
       told.bench ∙ inv.0,
       told.cells
           ∙ (λ j. cells_after K (g.R.Rule.meaning (inv.0 j).parts.rule) (g.D.Density.weights K (inv.0 j).parts.density) (inv.1 j) call (inv.2 j))
@@ -28,8 +35,13 @@ loop-i-preserved g c =
       told.left
           ∙ (λ j. left_by K (g.R.Rule.meaning (inv.0 j).parts.rule) (g.D.Density.weights K (inv.0 j).parts.density) (inv.1 j) call (inv.2 j))
           ∙ ap (λ p. p.strips) (sym more),
-      answers_more (option_map (answered K)) c.loop-i.answers i c.obey-next.result.1 _ _ (omega arith) inv.3
-          (told.said ∙ (λ j. said_to K (g.R.Rule.meaning (inv.0 j).parts.rule) (g.D.Density.weights K (inv.0 j).parts.density) (inv.1 j) call (inv.2 j)))
+      answers_more (option_map (answered K)) now.answers i answer _ _ (omega arith) inv.3 said
           ∙ ap (λ p. p.said) (sym more),
-      answers_past c.loop-i.answers a.answers.now i c.obey-next.result.1 inv.4,
+      answers_past now.answers a.answers.now i answer inv.4,
+      subst (λ p. Stayed K r d p (all_strips a.cells.now a.spare.now a.opening.now a.crossed.now a.touched.now) (all_strips new.cells new.spare new.opening new.crossed new.touched))
+          (sym more)
+          (stayed_more K r d first (map asked (take i a.script.now)) call answer (all_strips a.cells.now a.spare.now a.opening.now a.crossed.now a.touched.now)
+          (all_strips now.cells now.spare now.opening now.crossed now.touched) (all_strips new.cells new.spare new.opening new.crossed new.touched)
+          inv.5 said (subst (λ n. StaysPast (written answer call n) (all_strips now.cells now.spare now.opening now.crossed now.touched)
+          (all_strips new.cells new.spare new.opening new.crossed new.touched)) inv.1 told.charges)),
     )

@@ -2,7 +2,9 @@ use Rattle.std.proofs.Common.{◌≡◌, map, length, take, drop}
 use Rattle.std.specs.Option.{option_map}
 use Rattle.player.specs.Logs.{standing}
 use Rattle.player.specs.Answers.{strips, asked, answered, open_cells, of_player}
+use Rattle.player.specs.Promises.{all_strips}
 use Rattle.player.specs.Scripts.{played}
+use Rattle.player.proofs.Staying.{Stayed}
 use Rattle.player.proofs.player.play.Given as goal
 
 abbrev pub invariant-loop-i : goal.invariant-loop-i
@@ -16,3 +18,5 @@ invariant-loop-i g l =
     × (strips K l.cells l.spare l.opening l.crossed l.touched ≡ now.strips)
     × (map (option_map (answered K)) (take l.i l.answers) ≡ now.said)
     × (drop l.i l.answers ≡ drop l.i l.initial.answers)
+    × Stayed K (g.R.Rule.meaning bench.parts.rule) (g.D.Density.weights K bench.parts.density) now
+    (all_strips l.initial.cells l.initial.spare l.initial.opening l.initial.crossed l.initial.touched) (all_strips l.cells l.spare l.opening l.crossed l.touched)

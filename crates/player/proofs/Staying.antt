@@ -1,0 +1,133 @@
+-- The charges that a call and a script leave as they were: the charges themselves. Assumes nothing.
+use Rattle.std.proofs.Common.{◌≡◌, ℕ, ◌+◌, ◌-◌, ◌≤◌, max, Bool, true, false, cond, List, [], ◌∷◌, map, length, drop, fold, Some, None, Option, Result, Ok, Err, sym, refl, ap, ◌∙◌, subst, arith}
+use Rattle.std.specs.Option.{option_map}
+use Rattle.std.proofs.lemmas.List.{drop-drop}
+use Rattle.fault.specs.declared.Fault.{Fault}
+use Rattle.charge.specs.Groups.{Kind}
+use Rattle.automaton.specs.Meanings.{Local, Weights}
+use Rattle.player.specs.declared.call.Answer.{Answer as Answered}
+use Rattle.player.specs.declared.call.Answer.TheVariants.{Done, Reading as Read_as, Refused as Refused_by}
+use Rattle.player.specs.declared.meters.Reading.{Reading}
+use Rattle.player.specs.Answers.{answered, done_answer, read_answer, Stays}
+use Rattle.player.specs.Calls.{Call, Answer, Strips, Outcome, size, outcome}
+use Rattle.player.specs.Calls.Call.{opens, touches, steps, reads, closes}
+use Rattle.player.specs.Calls.Answer.{done, reading, refused}
+use Rattle.player.specs.Logs.{Log, allowed, accepted, standing, ring_opened, longest_opened}
+use Rattle.player.specs.Logs.Log.{◌then◌}
+use Rattle.player.specs.Obeying.{Written, front_of_all, written_by, written, StaysPast}
+use Rattle.player.specs.Scripts.{Played, got, said_to, logged, still_open, cells_after, played_more, played}
+use Rattle.player.proofs.Scripts.{cells_stand}
+
+-- what stays past an index stays past a later one
+past-later : {X : Type 0} (n m : ℕ) (old new : List X) → n ≤ m → drop n new ≡ drop n old → drop m new ≡ drop m old
+past-later n m old new less e =
+    ap (λ k. drop k new) split ∙ sym (drop-drop (m - n) n new) ∙ ap (drop (m - n)) e ∙ drop-drop (m - n) n old ∙ ap (λ k. drop k old) (sym split)
+  where
+    split : m ≡ m - n + n
+    split = omega arith
+
+-- one call more, which writes no charge past the first m
+pub stays-more : {C : Type 0} (n m : ℕ) (w : Written) (old mid new : Strips C) → n ≤ m → (w.opening ≤ m) × (w.crossed ≤ m) × (w.touched ≤ m) →
+    StaysPast (front_of_all n) old mid → StaysPast w mid new → StaysPast (front_of_all m) old new
+stays-more n m w old mid new less within first more = (
+  past-later w.opening m mid.opening new.opening within.0 more.0 ∙ past-later n m old.opening mid.opening less first.0,
+  past-later w.crossed m mid.crossed new.crossed within.1 more.1 ∙ past-later n m old.crossed mid.crossed less first.1,
+  past-later w.touched m mid.touched new.touched within.2 more.2 ∙ past-later n m old.touched mid.touched less first.2,
+)
+
+abbrev Within : Written → ℕ → Type 0
+Within w m = (w.opening ≤ m) × (w.crossed ≤ m) × (w.touched ≤ m)
+
+-- an accepted call writes no more charges than the longest ring has, and leaves no longer ring open
+call-within : (call : Call) (L n : ℕ) → L ≤ n → Within (written_by call L) (max n (ring_opened call)) × (still_open call (size call L) ≤ max n (ring_opened call))
+call-within (opens ring) L n h = ((omega arith, omega arith, omega arith), omega arith)
+call-within (touches i a) L n h = ((omega arith, omega arith, omega arith), omega arith)
+call-within steps L n h = ((omega arith, omega arith, omega arith), omega arith)
+call-within (reads i) L n h = ((omega arith, omega arith, omega arith), omega arith)
+call-within closes L n h = ((omega arith, omega arith, omega arith), omega arith)
+
+nothing-within : (m : ℕ) → Within (front_of_all 0) m
+nothing-within m = (omega arith, omega arith, omega arith)
+
+module _ {C : Type 0} (K : Kind C) (r : Local) (d : Weights K.group.Carrier) where
+  -- the answer that a call was given, and the log with it
+  written-within : (log : Log K.group.Carrier) (call : Call) (s : Strips K.group.Carrier) (L : ℕ) → L ≤ longest_opened log → (answer : Option (Answered C)) →
+      option_map (answered K) answer ≡ said_to K r d L call s → Within (written answer call L) (longest_opened (logged K r d L call s log))
+  written-within log call s L h None e = nothing-within _
+  written-within log call s L h (Some (Refused_by f)) e = nothing-within _
+  written-within log call s L h (Some Done) e = go (allowed call L) e
+    where
+      go : (b : Bool) → Some done ≡ cond b (Some (got K r d L call s).said) None →
+          Within (written_by call L) (longest_opened (cond b (log then record { call = call; handed = s; got = got K r d L call s }) log))
+      go true e =
+          subst (λ a. Within (written_by call L) (max (longest_opened log) (accepted a (ring_opened call) 0))) (let same : done ≡ (got K r d L call s).said = grind arith in same)
+          (call-within call L (longest_opened log) h).0
+      go false e = absurd (grind arith)
+  written-within log call s L h (Some (Read_as m)) e = go (allowed call L) e
+    where
+      go : (b : Bool) → Some (answered K (Read_as m)) ≡ cond b (Some (got K r d L call s).said) None →
+          Within (written_by call L) (longest_opened (cond b (log then record { call = call; handed = s; got = got K r d L call s }) log))
+      go true e =
+          subst (λ a. Within (written_by call L) (max (longest_opened log) (accepted a (ring_opened call) 0))) (let same : answered K (Read_as m) ≡ (got K r d L call s).said = grind arith in same)
+          (call-within call L (longest_opened log) h).0
+      go false e = absurd (grind arith)
+
+  -- a log with one call more has no shorter ring opened
+  longer : (log : Log K.group.Carrier) (call : Call) (s : Strips K.group.Carrier) (L : ℕ) → longest_opened log ≤ longest_opened (logged K r d L call s log)
+  longer log call s L = go (allowed call L)
+    where
+      go : (b : Bool) → longest_opened log ≤ longest_opened (cond b (log then record { call = call; handed = s; got = got K r d L call s }) log)
+      go true = omega arith
+      go false = omega arith
+
+  -- the open ring is no longer than the longest that was opened
+  accepted-within : (said : Answer K.group.Carrier) (call : Call) (L n : ℕ) → L ≤ n → accepted said (still_open call (size call L)) L ≤ max n (accepted said (ring_opened call) 0)
+  accepted-within done call L n h = (call-within call L n h).1
+  accepted-within (reading o c t m) call L n h = (call-within call L n h).1
+  accepted-within (refused f) call L n h = omega arith
+
+  cells-within : (log : Log K.group.Carrier) (call : Call) (s : Strips K.group.Carrier) (L : ℕ) → L ≤ longest_opened log →
+      cells_after K r d L call s ≤ longest_opened (logged K r d L call s log)
+  cells-within log call s L h = go (allowed call L)
+    where
+      go : (b : Bool) → cond b (accepted (got K r d L call s).said (still_open call (size call L)) L) L
+          ≤ longest_opened (cond b (log then record { call = call; handed = s; got = got K r d L call s }) log)
+      go true = accepted-within (got K r d L call s).said call L (longest_opened log) h
+      go false = h
+
+  -- What stays while a script is played: the charges past the longest ring that was opened, which is no shorter than the
+  -- ring that is open.
+  pub record Stayed (p : Played K.group.Carrier) (old now : Strips C) : Type 0 where
+    pub past : StaysPast (front_of_all (longest_opened p.log)) old now
+    pub open : length (standing p.log).cells ≤ longest_opened p.log
+
+  -- one call more
+  pub stayed_more : (s : Strips K.group.Carrier) (script : List Call) (call : Call) (answer : Option (Answered C)) (old mid new : Strips C) →
+      let p = played K r d s script in
+      Stayed p old mid → option_map (answered K) answer ≡ said_to K r d (length (standing p.log).cells) call p.strips →
+      StaysPast (written answer call (length (standing p.log).cells)) mid new → Stayed (played_more K r d p call) old new
+  stayed_more s script call answer old mid new stayed said more =
+      let p = played K r d s script in
+      let L : ℕ = length (standing p.log).cells in
+      let m : ℕ = longest_opened (logged K r d L call p.strips p.log) in
+      record {
+        past = stays-more (longest_opened p.log) m (written answer call L) old mid new (longer p.log call p.strips L) (written-within p.log call p.strips L stayed.open answer said) stayed.past more;
+        open = subst (λ n. n ≤ m) (cells_stand K r d s script call) (cells-within p.log call p.strips L stayed.open);
+      }
+
+-- what an accepted or refused call leaves of one strip of charges
+module _ {C : Type 0} where
+  pub touch-stays : (told : Result (Unit {0}) Fault) (L i a : ℕ) (old new : Strips C) → new.opening ≡ old.opening → new.crossed ≡ old.crossed →
+      Stays told L old.touched new.touched → StaysPast (written (Some (done_answer told)) (touches i a) L) old new
+  touch-stays (Ok t) L i a old new o c s = (o, c, s)
+  touch-stays (Err f) L i a old new o c s = (o, c, s)
+
+  pub step-stays : (told : Result (Unit {0}) Fault) (L : ℕ) (old new : Strips C) → new.opening ≡ old.opening → new.touched ≡ old.touched →
+      Stays told L old.crossed new.crossed → StaysPast (written (Some (done_answer told)) steps L) old new
+  step-stays (Ok t) L old new o u s = (o, s, u)
+  step-stays (Err f) L old new o u s = (o, s, u)
+
+  pub read-stays : (told : Result (Reading C) Fault) (L i : ℕ) (old new : Strips C) → (new.opening ≡ old.opening) × (new.crossed ≡ old.crossed) × (new.touched ≡ old.touched) →
+      StaysPast (written (Some (read_answer told)) (reads i) L) old new
+  read-stays (Ok m) L i old new same = same
+  read-stays (Err f) L i old new same = same
