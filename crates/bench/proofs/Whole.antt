@@ -1,13 +1,12 @@
 -- What a verdict on voices says is true of whole numbers without bounds. Assumes nothing.
 use Rattle.std.proofs.Common.{◌≡◌, ℕ, zero, suc, ◌+◌, ◌-◌, ◌*◌, ◌^◌, ◌<◌, ◌≤◌, max, List, ◌++◌, length, take, drop, ℤ, ◌+ℤ◌, neg_ℤ, nat_abs, sym, ap, ◌∙◌, subst, ap₂, suc-mul, zero-mul, arith}
-use mathlib.Core.Path.{fun_ext}
+use native.Mathlib.Nat.{add-mul}
 use lib.ListN.{get_or-map}
 use Rattle.std.proofs.lemmas.Int.{ints}
 use Rattle.charge.specs.Groups.{minus, sum_over}
 use Rattle.charge.specs.Kinds.{voice_group, voice_means, signed}
 use Rattle.charge.specs.Ranges.{voices_end}
 use Rattle.charge.specs.Residues.{Below}
-use Rattle.charge.proofs.Sums.{sum_same}
 use Rattle.charge.proofs.Integers.{means-zero, means-add, means-neg, means-signed, means_apart, entry_small}
 use Rattle.automaton.specs.Words.{code, repeated, window, cell, before}
 use Rattle.automaton.specs.Meanings.{Local, Weights, weight, next, site, booking_offset, total}
@@ -30,54 +29,51 @@ nat_abs-neg x = omega (arith, ints)
 nat_abs-add : (x y : ℤ) → nat_abs (x +ℤ y) ≤ nat_abs x + nat_abs y
 nat_abs-add x y = omega (arith, ints)
 
--- sums, differences and crossings of whole numbers mean those of their meanings
-pub means-sum : (f : ℕ → ℤ) (n : ℕ) → voice_means (sum_over integers f n) ≡ sum_over voice_group (λ i. voice_means (f i)) n
-means-sum f zero = means-zero
-means-sum f (suc n) = means-add (sum_over integers f n) (f n) ∙ ap (λ x. voice_group.add x (voice_means (f n))) (means-sum f n)
+-- sums and differences of whole numbers mean those of their meanings
+pub means-sum : (f : ℕ → ℤ) (F : ℕ → Below (2 ^ 64)) (n : ℕ) → ((i : ℕ) → voice_means (f i) ≡ F i) → voice_means (sum_over integers f n) ≡ sum_over voice_group F n
+means-sum f F zero e = means-zero
+means-sum f F (suc n) e = means-add (sum_over integers f n) (f n) ∙ ap₂ voice_group.add (means-sum f F n e) (e n)
 
-means-minus : (x y : ℤ) → voice_means (minus integers x y) ≡ minus voice_group (voice_means x) (voice_means y)
-means-minus x y = means-add x (neg_ℤ y) ∙ ap (voice_group.add (voice_means x)) (means-neg y)
+means-minus : (x y : ℤ) (X Y : Below (2 ^ 64)) → voice_means x ≡ X → voice_means y ≡ Y → voice_means (minus integers x y) ≡ minus voice_group X Y
+means-minus x y X Y e f = means-add x (neg_ℤ y) ∙ ap₂ voice_group.add e (means-neg y ∙ ap voice_group.neg f)
 
-pub means-crossing : (d : List ℕ → ℤ) (z r : ℕ) (v : List ℕ) → voice_means (crossing integers d z r v) ≡ crossing voice_group (λ w. voice_means (d w)) z r v
-means-crossing d z r v =
-    let at : ℕ → ℤ = λ j. d (repeated z (r - j) ++ take (suc j) v) in
-    means-neg (sum_over integers at r) ∙ ap voice_group.neg (means-sum at r)
-
--- what crosses into a word less what crosses out of it
-pub means-crosses : (d : List ℕ → ℤ) (z r : ℕ) (w : List ℕ) →
-    voice_means (minus integers (crossing integers d z r (take r w)) (crossing integers d z r (drop 1 w)))
-    ≡ minus voice_group (crossing voice_group (λ v. voice_means (d v)) z r (take r w)) (crossing voice_group (λ v. voice_means (d v)) z r (drop 1 w))
-means-crosses d z r w =
-    let J : List ℕ → ℤ = crossing integers d z r in
-    means-minus (J (take r w)) (J (drop 1 w))
-    ∙ ap₂ (minus voice_group) (means-crossing d z r (take r w)) (means-crossing d z r (drop 1 w))
-
-pub sum_small : (f : ℕ → ℤ) (t n : ℕ) → ((i : ℕ) → i < n → nat_abs (f i) ≤ t) → nat_abs (sum_over integers f n) ≤ n * t
+pub sum_small : (f : ℕ → ℤ) (t n : ℕ) → ((i : ℕ) → nat_abs (f i) ≤ t) → nat_abs (sum_over integers f n) ≤ n * t
 sum_small f t zero e = omega (arith, zero-mul t)
 sum_small f t (suc n) e =
-    omega (arith, nat_abs-add (sum_over integers f n) (f n), sum_small f t n (λ i l. e i (omega arith)), e n (omega arith), suc-mul n t)
+    omega (arith, nat_abs-add (sum_over integers f n) (f n), sum_small f t n e, e n, suc-mul n t)
 
--- for a label of small whole numbers
-module _ (d : List ℕ → ℤ) (t z r : ℕ) (small : (w : List ℕ) → nat_abs (d w) ≤ t) where
+-- a label of small whole numbers, and what it means
+module _ (d : List ℕ → ℤ) (D : List ℕ → Below (2 ^ 64)) (t z r : ℕ) (means : (w : List ℕ) → voice_means (d w) ≡ D w) (small : (w : List ℕ) → nat_abs (d w) ≤ t) where
+  pub crossing-means : (v : List ℕ) → voice_means (crossing integers d z r v) ≡ crossing voice_group D z r v
+  crossing-means v =
+      let at : ℕ → List ℕ = λ j. repeated z (r - j) ++ take (suc j) v in
+      means-neg (sum_over integers (λ j. d (at j)) r) ∙ ap voice_group.neg (means-sum (λ j. d (at j)) (λ j. D (at j)) r (λ j. means (at j)))
+
   pub crossing_small : (v : List ℕ) → nat_abs (crossing integers d z r v) ≤ r * t
   crossing_small v =
       let at : ℕ → ℤ = λ j. d (repeated z (r - j) ++ take (suc j) v) in
-      subst (λ n. n ≤ r * t) (sym (nat_abs-neg (sum_over integers at r))) (sum_small at t r (λ j h. small (repeated z (r - j) ++ take (suc j) v)))
+      subst (λ n. n ≤ r * t) (sym (nat_abs-neg (sum_over integers at r))) (sum_small at t r (λ j. small (repeated z (r - j) ++ take (suc j) v)))
 
-  -- what crosses into a word less what crosses out of it
-  pub crosses_small : (w : List ℕ) → nat_abs (minus integers (crossing integers d z r (take r w)) (crossing integers d z r (drop 1 w))) ≤ r * t + r * t
-  crosses_small w =
-      let J : List ℕ → ℤ = crossing integers d z r in
-      omega (arith, nat_abs-minus (J (take r w)) (J (drop 1 w)), crossing_small (take r w), crossing_small (drop 1 w))
+  -- what crosses at a word's first letters less what crosses at its last
+  abbrev pub crossed : List ℕ → ℤ
+  crossed w = minus integers (crossing integers d z r (take r w)) (crossing integers d z r (drop 1 w))
+
+  pub crossed-means : (w : List ℕ) → voice_means (crossed w) ≡ minus voice_group (crossing voice_group D z r (take r w)) (crossing voice_group D z r (drop 1 w))
+  crossed-means w =
+      means-minus (crossing integers d z r (take r w)) (crossing integers d z r (drop 1 w)) _ _ (crossing-means (take r w)) (crossing-means (drop 1 w))
+
+  pub crossed_small : (w : List ℕ) → nat_abs (crossed w) ≤ (r + r) * t
+  crossed_small w =
+      omega
+      (arith, add-mul r r t, nat_abs-minus (crossing integers d z r (take r w)) (crossing integers d z r (drop 1 w)), crossing_small (take r w), crossing_small (drop 1 w))
 
   -- on words of few letters no word fails if none fails in voices
-  holds-whole : (q : ℕ) → r * t + r * t + t < 2 ^ 63 → Holds voice_group (λ w. voice_means (d w)) z q r → Holds integers d z q r
-  holds-whole q room holds w word =
-      let J : List ℕ → ℤ = crossing integers d z r in
-      means_apart (d w) (minus integers (J (take r w)) (J (drop 1 w)))
-      (omega (arith, small w, room))
-      (omega (arith, room, crosses_small w))
-      (holds w word ∙ sym (means-crosses d z r w))
+  holds-whole : (q : ℕ) → t < 2 ^ 63 → (r + r) * t < 2 ^ 63 → Holds voice_group D z q r → Holds integers d z q r
+  holds-whole q h room holds w word =
+      means_apart (d w) (crossed w)
+      (omega (arith, small w))
+      (omega (arith, crossed_small w))
+      (means w ∙ holds w word ∙ sym (crossed-means w))
 
 -- a density's charges read as whole numbers
 module _ (d : Weights (Below (2 ^ 64))) where
@@ -94,9 +90,7 @@ module _ (d : Weights (Below (2 ^ 64))) where
   pub total-means : (c : List ℕ) → voice_means (total integers (whole d) c) ≡ total voice_group d c
   total-means c =
       let s : ℕ → ℤ = site integers booking_offset (whole d) c in
-      means-sum s (length c)
-      ∙ sum_same voice_group (λ i. voice_means (s i)) (site voice_group booking_offset d c) (length c)
-      (λ i _. weight-means (window d.k (cell c) (before (length c) booking_offset i)))
+      means-sum s (site voice_group booking_offset d c) (length c) (λ i. weight-means (window d.k (cell c) (before (length c) booking_offset i)))
 
 -- the difference of two charges, each read as a whole number
 module _ (d e : Weights (Below (2 ^ 64))) (u v : List ℕ) where
@@ -105,8 +99,7 @@ module _ (d e : Weights (Below (2 ^ 64))) (u v : List ℕ) where
 
   difference-means : voice_means difference ≡ minus voice_group (weight voice_group d u) (weight voice_group e v)
   difference-means =
-      means-minus (weight integers (whole d) u) (weight integers (whole e) v)
-      ∙ ap₂ (minus voice_group) (weight-means d u) (weight-means e v)
+      means-minus (weight integers (whole d) u) (weight integers (whole e) v) _ _ (weight-means d u) (weight-means e v)
 
   difference_small : InRange d → InRange e → nat_abs difference ≤ label_end
   difference_small range range' =
@@ -131,11 +124,10 @@ pub verdict_whole : VerdictWhole
 verdict_whole r d some inside narrow-rule wide narrow range =
     let m : ℕ = r.n + d.k - 2 in
     let width : r.n + d.k - 1 ≡ suc m = omega arith in
-    let label : List ℕ → ℤ = rule_label integers r (whole d) in
-    let same : (λ (w : List ℕ). voice_means (label w)) ≡ rule_label voice_group r d = fun_ext (rule_label-means r d) in (
+    let label : List ℕ → ℤ = rule_label integers r (whole d) in (
       λ keeps. (verdict integers 0 r (whole d) m inside width some).0
-          (holds-whole label label_end 0 m (rule_label_small r d range) r.q (omega arith)
-          (subst (λ f. Holds voice_group f 0 r.q m) (sym same) ((verdict voice_group 0 r d m inside width some).1 keeps))),
+          (holds-whole label (rule_label voice_group r d) label_end 0 m (rule_label-means r d) (rule_label_small r d range) r.q (omega arith) (omega arith)
+          ((verdict voice_group 0 r d m inside width some).1 keeps)),
       λ keeps c long below. sym (total-means d (next r c)) ∙ ap voice_means (keeps c long below) ∙ total-means d c,
     )
 
@@ -143,10 +135,9 @@ pub comparison_whole : ComparisonWhole
 comparison_whole d e some wide narrow wide' narrow' range range' =
     let m : ℕ = max d.k e.k - 1 in
     let width : max d.k e.k ≡ suc m = omega arith in
-    let label : List ℕ → ℤ = two_label integers (whole d) (whole e) in
-    let same : (λ (w : List ℕ). voice_means (label w)) ≡ two_label voice_group d e = fun_ext (two_label-means d e) in (
+    let label : List ℕ → ℤ = two_label integers (whole d) (whole e) in (
       λ one. (comparison integers 0 (whole d) (whole e) m width some).0
-          (holds-whole label label_end 0 m (two_label_small d e range range') d.q (omega arith)
-          (subst (λ f. Holds voice_group f 0 d.q m) (sym same) ((comparison voice_group 0 d e m width some).1 one))),
+          (holds-whole label (two_label voice_group d e) label_end 0 m (two_label-means d e) (two_label_small d e range range') d.q (omega arith) (omega arith)
+          ((comparison voice_group 0 d e m width some).1 one)),
       λ one c long below. sym (total-means d c) ∙ ap voice_means (one c long below) ∙ total-means e c,
     )

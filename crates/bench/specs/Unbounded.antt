@@ -7,7 +7,6 @@ use Rattle.charge.specs.Groups.{Kind}
 use Rattle.charge.specs.Kinds.{voice_group, voices, signed}
 use Rattle.charge.specs.Ranges.{voices_range}
 use Rattle.charge.specs.Residues.{Below}
-use Rattle.charge.specs.declared.voices.Voices.{Voices}
 use Rattle.automaton.specs.Meanings.{Weights, Lawful, Weighed}
 use Rattle.criterion.specs.Search.{padding, crossings}
 use Rattle.bench.specs.Labels.{two_label_list}
