@@ -2,6 +2,7 @@ pub mod Gains
 pub mod Verdicts
 pub mod Whole
 pub mod Rights
+pub mod Unbounded
 pub mod Coded
 pub mod Fits
 pub mod Searches

@@ -83,7 +83,7 @@ module _ (d : Weights (Below (2 ^ 64))) where
   pub weight-means : (w : List ℕ) → voice_means (weight integers (whole d) w) ≡ weight voice_group d w
   weight-means w = ap voice_means (weight-whole w) ∙ means-signed (weight voice_group d w)
 
-  weight_small : InRange d → (w : List ℕ) → nat_abs (weight integers (whole d) w) ≤ voices_end
+  pub weight_small : InRange d → (w : List ℕ) → nat_abs (weight integers (whole d) w) ≤ voices_end
   weight_small range w =
       subst (λ x. nat_abs x ≤ voices_end) (sym (weight-whole w)) (entry_small (weight voice_group d w) (range (code d.q w)))
 
