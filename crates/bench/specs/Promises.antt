@@ -12,6 +12,7 @@ use Rattle.bench.specs.Benches.{Bench}
 use Rattle.bench.specs.Answers.{judge_said, compare_said}
 use Rattle.bench.specs.Laws.{VerdictRight, VerdictWhole, ComparisonRight, ComparisonWhole}
 use Rattle.bench.specs.Verdicts.{Lent, judge_found, judging, JudgeLeaves, compare_found, comparing, CompareLeaves}
+use Rattle.bench.specs.Unbounded.{VerdictUnbounded, ComparisonUnbounded}
 
 -- Judging a bench: what is answered, and what is left on the strips, by the strips before. Only a strip too short is
 -- refused. The verdict is right of rings of every length, and on voices of whole numbers without bounds.
@@ -21,6 +22,7 @@ pub record Judges {C H B S : Type 0} {K : Kind C} (b : Bench K) (old : Lent C) (
   pub left : JudgeLeaves b old new
   pub right : VerdictRight b (judge_found b (length old.crossings) (length old.ring))
   pub whole : VerdictWhole
+  pub unbounded : VerdictUnbounded
 
 -- Comparing two densities, likewise.
 pub record Compares {C : Type 0} (K : Kind C) (d e : Weights K.group.Carrier) (old : Lent C) (result : Result (Option (Break C)) Fault) (new : Lent C) : Type 0 where
@@ -28,3 +30,4 @@ pub record Compares {C : Type 0} (K : Kind C) (d e : Weights K.group.Carrier) (o
   pub left : CompareLeaves K d e old new
   pub right : ComparisonRight K d e (compare_found K d e (length old.crossings) (length old.ring))
   pub whole : ComparisonWhole
+  pub unbounded : ComparisonUnbounded
