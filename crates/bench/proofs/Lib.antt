@@ -1,5 +1,6 @@
 pub mod Gains
 pub mod Verdicts
+pub mod Readings
 pub mod Whole
 pub mod Rights
 pub mod Unbounded

@@ -42,25 +42,27 @@ whole_comparison agree = agree
 whole_comparison (differ b) = differ (whole_break b)
 
 -- Judging in voices is judging in whole numbers without bounds: the same word is found to fail and the same ring to show
--- it, what is found is right of whole numbers, and the totals that are answered and the crossings are whole numbers.
+-- it. What is found is right of unbounded totals: under "holds" no ring changes its own, otherwise the ring shown does.
+-- The totals that are answered are the unbounded totals, and so are the crossings.
 pub record JudgedWhole (b : Bench voices) (crossing_room ring_room : ℕ) : Type 0 where
   pub found : judge_found b crossing_room ring_room ≡ judge_found (whole_bench b) crossing_room ring_room
   pub right : VerdictRight (whole_bench b) (judge_found b crossing_room ring_room)
   pub answer : and_then (judging b crossing_room ring_room) (λ v. Ok (whole_judgement v)) ≡ judging (whole_bench b) crossing_room ring_room
   pub crossings : map signed (crossings_of b) ≡ crossings_of (whole_bench b)
 
--- and so is comparing in voices
+-- Comparing in voices is comparing in whole numbers without bounds, likewise.
 pub record ComparedWhole (d e : Weights (Below (2 ^ 64))) (crossing_room ring_room : ℕ) : Type 0 where
   pub found : compare_found voices d e crossing_room ring_room ≡ compare_found unbounded (whole d) (whole e) crossing_room ring_room
   pub right : ComparisonRight unbounded (whole d) (whole e) (compare_found voices d e crossing_room ring_room)
   pub answer : and_then (comparing voices d e crossing_room ring_room) (λ v. Ok (whole_comparison v)) ≡ comparing unbounded (whole d) (whole e) crossing_room ring_room
   pub crossings : map signed (crossings voices padding (two_label_list voice_group d e)) ≡ crossings unbounded padding (two_label_list integers (whole d) (whole e))
 
--- with entries in range, for each rule and density, and for strips of any room
+-- of every rule and every density with entries in range, for strips of any room
 abbrev pub VerdictUnbounded : Type 0
 VerdictUnbounded = (b : Bench voices) → Lawful b.rule → Weighed b.density → InRange b.density →
     (crossing_room ring_room : ℕ) → JudgedWhole b crossing_room ring_room
 
+-- and of every two such densities
 abbrev pub ComparisonUnbounded : Type 0
 ComparisonUnbounded = (d e : Weights (Below (2 ^ 64))) → Weighed d → Weighed e → InRange d → InRange e →
     (crossing_room ring_room : ℕ) → ComparedWhole d e crossing_room ring_room
