@@ -57,12 +57,12 @@ pub record ComparedWhole (d e : Weights (Below (2 ^ 64))) (crossing_room ring_ro
   pub answer : and_then (comparing voices d e crossing_room ring_room) (λ v. Ok (whole_comparison v)) ≡ comparing unbounded (whole d) (whole e) crossing_room ring_room
   pub crossings : map signed (crossings voices padding (two_label_list voice_group d e)) ≡ crossings unbounded padding (two_label_list integers (whole d) (whole e))
 
--- of every rule and every density with entries in range, for strips of any room
+-- so it is for every bench with entries in range, on strips of any room
 abbrev pub VerdictUnbounded : Type 0
 VerdictUnbounded = (b : Bench voices) → Lawful b.rule → Weighed b.density → InRange b.density →
     (crossing_room ring_room : ℕ) → JudgedWhole b crossing_room ring_room
 
--- and of every two such densities
+-- and for every two densities with entries in range
 abbrev pub ComparisonUnbounded : Type 0
 ComparisonUnbounded = (d e : Weights (Below (2 ^ 64))) → Weighed d → Weighed e → InRange d → InRange e →
     (crossing_room ring_room : ℕ) → ComparedWhole d e crossing_room ring_room
