@@ -1,7 +1,9 @@
 pub mod Gains
 pub mod Verdicts
+pub mod Readings
 pub mod Whole
 pub mod Rights
+pub mod Unbounded
 pub mod Coded
 pub mod Fits
 pub mod Searches

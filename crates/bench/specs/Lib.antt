@@ -2,6 +2,7 @@ pub mod Labels
 pub mod Benches
 pub mod Laws
 pub mod Verdicts
+pub mod Unbounded
 pub mod Sized
 pub mod Answers
 pub mod Promises

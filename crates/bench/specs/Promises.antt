@@ -12,15 +12,18 @@ use Rattle.bench.specs.Benches.{Bench}
 use Rattle.bench.specs.Answers.{judge_said, compare_said}
 use Rattle.bench.specs.Laws.{VerdictRight, VerdictWhole, ComparisonRight, ComparisonWhole}
 use Rattle.bench.specs.Verdicts.{Lent, judge_found, judging, JudgeLeaves, compare_found, comparing, CompareLeaves}
+use Rattle.bench.specs.Unbounded.{VerdictUnbounded, ComparisonUnbounded}
 
 -- Judging a bench: what is answered, and what is left on the strips, by the strips before. Only a strip too short is
--- refused. The verdict is right of rings of every length, and on voices of whole numbers without bounds.
+-- refused. The verdict is right of rings of every length, and on voices of whole numbers without bounds: so are then the
+-- ring that is shown, its totals and the crossings.
 pub record Judges {C H B S : Type 0} {K : Kind C} (b : Bench K) (old : Lent C) (result : Result (Verdict C H B) (Refused S)) (new : Lent C) : Type 0 where
   pub answer : judge_said K result ≡ judging b (length old.crossings) (length old.ring)
   pub refused : IsOkUnless (judge_said K result) (refused_at ShortStrip 0)
   pub left : JudgeLeaves b old new
   pub right : VerdictRight b (judge_found b (length old.crossings) (length old.ring))
   pub whole : VerdictWhole
+  pub unbounded : VerdictUnbounded
 
 -- Comparing two densities, likewise.
 pub record Compares {C : Type 0} (K : Kind C) (d e : Weights K.group.Carrier) (old : Lent C) (result : Result (Comparison C) Fault) (new : Lent C) : Type 0 where
@@ -28,3 +31,4 @@ pub record Compares {C : Type 0} (K : Kind C) (d e : Weights K.group.Carrier) (o
   pub left : CompareLeaves K d e old new
   pub right : ComparisonRight K d e (compare_found K d e (length old.crossings) (length old.ring))
   pub whole : ComparisonWhole
+  pub unbounded : ComparisonUnbounded

@@ -5,6 +5,7 @@ use Rattle.bench.specs.Verdicts.{lent, broken, judge_found}
 use Rattle.bench.proofs.Known.{known_by}
 use Rattle.bench.proofs.Rights.{verdict_right}
 use Rattle.bench.proofs.Searches.{only_short, sizes-pass}
+use Rattle.bench.proofs.Unbounded.{verdict_unbounded}
 use Rattle.bench.proofs.Whole.{verdict_whole}
 use Rattle.bench.proofs.state.Draft.judge.Goals as goal
 
@@ -26,6 +27,7 @@ returns-in-Ok-clause-judged g c =
       left = c.in-Ok.ensures.left;
       right = verdict_right K (length c.args.crossings.now) (length c.args.ring.now) (draft_bench c.args.self) (g.R.Rule.lawful c.args.self.parts.rule) (g.D.Density.lawful K c.args.self.parts.density);
       whole = verdict_whole;
+      unbounded = verdict_unbounded;
     }
 
 pub returns-in-Err-clause-judged : goal.returns-in-Err-clause-judged
@@ -40,4 +42,5 @@ returns-in-Err-clause-judged g c =
       left = c.in-Err.ensures.left;
       right = verdict_right K (length old.crossings) (length old.ring) b (g.R.Rule.lawful draft.parts.rule) (g.D.Density.lawful K draft.parts.density);
       whole = verdict_whole;
+      unbounded = verdict_unbounded;
     }
