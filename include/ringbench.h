@@ -133,12 +133,12 @@ struct ringbench_judge_answer ringbench_judge(const uint8_t *bytes, size_t byte_
 
 /* Judges the preset that the bytes are, and where it holds answers each call of a script, in order, at the call's place in
  * `answers`. The open ring is at the front of `cells`; a ring that is longer than `cells` is refused. Under "breaks" nothing
- * is written. A call has no answer if its number is none of these, if it is open while a ring is open, or another while none
- * is.
+ * is written. A call has no answer if its number is none of these, if it is open while a ring is open (whatever letters it
+ * names), or another while none is.
  * Refused: as ringbench_read by the bytes; then 12 at place 0 if `answers` is shorter than the script. A call of a script
- * is refused by itself, in its answer: open by 12 at place 0 if its letters reach past the end of `rings` (even while a
- * ring is open), 11 at 0 if it does not have 1 to RINGBENCH_MOST_CELLS letters, 12 at 0 if it has more than `cells`, and
- * 14 at the first that is not below q; touch and read by 13 at 0 past the ring; touch by 14 at the ring's length for a
+ * is refused by itself, in its answer, by the lowest code that fits: open by 11 at place 0 if it does not have 1 to
+ * RINGBENCH_MOST_CELLS letters, wherever they stand, 12 at 0 if they reach past the end of `rings` or are more than `cells`,
+ * and 14 at the first that is not below q; touch and read by 13 at 0 past the ring; touch by 14 at the ring's length for a
  * letter that is not below q.
  * Stack: 448 KiB. */
 struct ringbench_judge_answer ringbench_play(const uint8_t *bytes, size_t byte_count,

@@ -137,6 +137,24 @@ pub fn rings(random: &mut Random, q: usize) -> Vec<u8> {
         .collect()
 }
 
+/// An open of a length that no ring has, or of letters that may reach past the end, or both.
+fn odd_open(random: &mut Random, letters: usize) -> ScriptCall {
+    let near = random.below(14);
+    let len = random.pick(&[0, 0, near, near, letters, 4096, 4097, 5000, usize::MAX]);
+    let last = letters.saturating_sub(len); // where the last open of this length begins
+    let at = random.pick(&[0, last, last + 1, letters, letters + 1, usize::MAX - near]);
+    ScriptCall {
+        call: 1,
+        letter: 0,
+        at: if random.once_in(9) {
+            len.wrapping_neg() // so that the end is 0
+        } else {
+            at
+        },
+        len,
+    }
+}
+
 /// A script on these letters, with calls that are refused and calls that are not allowed.
 pub fn script(random: &mut Random, q: usize, letters: usize) -> Vec<ScriptCall> {
     let longest = match random.once_in(100) {
@@ -146,6 +164,9 @@ pub fn script(random: &mut Random, q: usize, letters: usize) -> Vec<ScriptCall> 
     let count = random.pick(&[0, 1, 2, 10, 40, 60]);
     (0..count)
         .map(|_| {
+            if random.once_in(8) {
+                return odd_open(random, letters);
+            }
             let call = random.pick(&[1, 1, 1, 1, 2, 2, 2, 3, 3, 3, 4, 4, 4, 4, 4, 5, 0, u32::MAX]);
             let len = random.below(longest + 2);
             let at = match call {

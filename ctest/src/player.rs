@@ -51,21 +51,23 @@ impl<'a> Player<'a> {
         (0..self.len).map(|i| self.preset.site(ring, i)).collect()
     }
 
-    fn open(&mut self, ring: &[u8]) -> Result<ScriptAnswer, Refusal> {
-        if !(1..=MOST_CELLS).contains(&ring.len()) {
+    fn open(&mut self, at: usize, len: usize) -> Result<ScriptAnswer, Refusal> {
+        if !(1..=MOST_CELLS).contains(&len) {
             return Err((11, 0));
         }
-        if ring.len() > self.cells.len() {
+        let end = at.checked_add(len).ok_or((12, 0))?;
+        let ring = self.rings.get(at..end).ok_or((12, 0))?;
+        if len > self.cells.len() {
             return Err((12, 0));
         }
         if let Some(place) = ring.iter().position(|a| usize::from(*a) >= self.preset.q) {
             return Err((14, place));
         }
-        self.len = ring.len();
-        self.cells[..self.len].copy_from_slice(ring);
+        self.len = len;
+        self.cells[..len].copy_from_slice(ring);
         self.opening = self.charges();
-        self.crossed = vec![ZERO; self.len];
-        self.touched = vec![ZERO; self.len];
+        self.crossed = vec![ZERO; len];
+        self.touched = vec![ZERO; len];
         Ok(done())
     }
 
@@ -114,17 +116,8 @@ impl<'a> Player<'a> {
     /// What a call is answered.
     pub fn obey(&mut self, call: ScriptCall) -> ScriptAnswer {
         let answer = match (call.call, self.len) {
-            (1, len) => match call.at.checked_add(call.len) {
-                Some(end) if end <= self.rings.len() => {
-                    if len > 0 {
-                        return ScriptAnswer::default();
-                    }
-                    let rings = self.rings;
-                    self.open(&rings[call.at..end])
-                }
-                _ => Err((12, 0)),
-            },
-            (_, 0) => return ScriptAnswer::default(),
+            (1, 0) => self.open(call.at, call.len),
+            (1, _) | (_, 0) => return ScriptAnswer::default(),
             (2, _) => self.touch(call.at, call.letter),
             (3, _) => Ok(self.step()),
             (4, _) => self.read(call.at),

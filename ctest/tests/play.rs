@@ -92,11 +92,19 @@ fn cells(random: &mut Random) -> Vec<u8> {
     (0..count).map(|_| random.next() as u8).collect()
 }
 
+/// Whether an open has a length that no ring has, and whether its letters reach past the end.
+fn open_at_fault(call: ScriptCall, letters: &[u8]) -> (bool, bool) {
+    let past = call.len > letters.len() || call.at > letters.len() - call.len;
+    (call.len == 0 || call.len > 4096, past)
+}
+
 #[test]
 fn scripts() {
     let mut random = Random::new(9);
     let mut seen = [0; 4];
     let mut codes = [0; 16];
+    // Opens by what is at fault, and whether a ring is open.
+    let mut opens = [[[0; 2]; 2]; 2];
     for _ in 0..8000 {
         let preset = holding(&mut random);
         let letters = rings(&mut random, preset.q);
@@ -106,8 +114,18 @@ fn scripts() {
         let room = calls.len() + random.below(3);
         assert!(compare(&bytes, &calls, &letters, &cells, room));
         let mut player = Player::new(&preset, &letters, &cells);
+        let mut open = false;
         for call in calls {
             let answer = player.obey(call);
+            if call.call == 1 {
+                let (bad, past) = open_at_fault(call, &letters);
+                opens[usize::from(bad)][usize::from(past)][usize::from(open)] += 1;
+            }
+            match (call.call, answer.answer) {
+                (1, 1) => open = true,
+                (5, 1) => open = false,
+                _ => {}
+            }
             seen[answer.answer as usize] += 1;
             codes[answer.code as usize] += 1;
         }
@@ -120,6 +138,82 @@ fn scripts() {
         [11, 12, 13, 14].iter().all(|code| codes[*code] > 200),
         "one code is rare: {codes:?}"
     );
+    assert!(
+        opens.iter().flatten().flatten().all(|count| *count > 500),
+        "one open is rare: {opens:?}"
+    );
+}
+
+/// Opens of many lengths at many places: by the lowest code that fits where no ring is open, and with no answer where one is.
+#[test]
+fn opens_of_many_lengths_and_places() {
+    let mut random = Random::new(15);
+    for count in [0, 1, 4, 12, 4095, 4096, 4097, 5000] {
+        let preset = holding(&mut random);
+        let bytes = preset_bytes(&preset);
+        let letters = vec![1; count];
+        for len in [
+            0,
+            1,
+            4,
+            5,
+            12,
+            4095,
+            4096,
+            4097,
+            5000,
+            usize::MAX - 1,
+            usize::MAX,
+        ] {
+            let last = count.saturating_sub(len);
+            let ends_at_0 = len.wrapping_neg();
+            for at in [
+                0,
+                1,
+                last,
+                last + 1,
+                count,
+                count + 1,
+                ends_at_0,
+                ends_at_0.wrapping_add(count),
+                usize::MAX,
+            ] {
+                for room in [0, 4, 4096] {
+                    let call = |call, at, len| ScriptCall {
+                        call,
+                        letter: 0,
+                        at,
+                        len,
+                    };
+                    let calls = [
+                        call(1, at, len),
+                        call(5, 0, 0),
+                        call(1, 0, 1),
+                        call(1, at, len),
+                        call(4, 0, 0),
+                        call(5, 0, 0),
+                        call(1, at, len),
+                    ];
+                    let cells = vec![7; room];
+                    assert!(compare(&bytes, &calls, &letters, &cells, calls.len()));
+                    let mut answers = [MARK; 7];
+                    play(&bytes, &calls, &letters, &mut vec![7; room], &mut answers);
+                    let said = answers.map(|answer| (answer.answer, answer.code, answer.place));
+                    let expected = match open_at_fault(calls[0], &letters) {
+                        (true, _) => (3, 11, 0),
+                        (false, true) => (3, 12, 0),
+                        (false, false) if len > room => (3, 12, 0),
+                        (false, false) => (1, 0, 0),
+                    };
+                    assert_eq!(said[0], expected);
+                    assert_eq!(said[6], expected);
+                    if count > 0 && room > 0 {
+                        assert_eq!(said[2..4], [(1, 0, 0), (0, 0, 0)]);
+                    }
+                }
+            }
+        }
+    }
 }
 
 #[test]

@@ -1,10 +1,11 @@
 -- Scripts from C, and how they are played. Assumes nothing.
-use Rattle.std.specs.Prelude.{◌≡◌, ℕ, ◌+◌, cond, List, [], ◌∷◌, ◌++◌, length, take, drop, replicate, fold, Some, None, Ok, Err, Option, Result, ◌==◌, nat_le}
+use Rattle.std.specs.Prelude.{◌≡◌, ℕ, suc, ◌+◌, cond, List, [], ◌∷◌, ◌++◌, length, take, drop, replicate, fold, Some, None, Ok, Err, Option, Result, ◌==◌, nat_le}
 use Rattle.fault.specs.declared.Fault.{Fault}
-use Rattle.fault.specs.declared.Stop.TheVariants.{ShortStrip}
+use Rattle.fault.specs.declared.Stop.TheVariants.{BadLength, ShortStrip}
 use Rattle.fault.specs.Answers.{and_then}
-use Rattle.fault.specs.Limits.{most_cells}
-use Rattle.fault.specs.Refusals.{Refusal, refused_at, refusal}
+use Rattle.fault.specs.Checks.{tested}
+use Rattle.fault.specs.Limits.{most_cells, within}
+use Rattle.fault.specs.Refusals.{Refusal, refusal}
 use Rattle.charge.specs.Groups.{Kind}
 use Rattle.automaton.specs.Meanings.{Local, Weights}
 use Rattle.std.specs.Option.{option_map}
@@ -13,17 +14,20 @@ use Rattle.player.specs.Answers.{asked}
 use Rattle.player.specs.Calls.{Call, Answer, Strips}
 use Rattle.player.specs.Calls.Call.{opens, touches, steps, reads, closes}
 use Rattle.player.specs.Calls.Answer.{refused}
+use Rattle.player.specs.Logs.{allowed, standing}
 use Rattle.player.specs.Logs.Log.{made}
 use Rattle.player.specs.Scripts.{Played, said_to, left_by, cells_after, played_more}
 use Rattle.capi.specs.declared.script.ScriptCall.{ScriptCall}
 
--- what a struct asks: a call of the player's, nothing, or what is refused before the player is asked
+-- what a struct asks: a call of the player's, nothing, or an open that has no ring to hand over, and is refused
 abbrev pub Asking : Type 0
 Asking = Result (Option Call) Refusal
 
--- a ring from the letters of all rings; one that reaches past their end is refused
+-- A ring from the letters of all rings. First its length is tested, and then whether they reach so far.
 abbrev pub ring_at : List ℕ → ℕ → ℕ → Result (List ℕ) Refusal
-ring_at letters at len = cond (nat_le (at + len) (length letters)) (Ok (take len (drop at letters))) (Err (refused_at ShortStrip 0))
+ring_at letters at len =
+    and_then (tested ((within 1 (suc most_cells) len, BadLength) ∷ (nat_le (at + len) (length letters), ShortStrip) ∷ []))
+    (λ _. Ok (take len (drop at letters)))
 
 -- 1 is open, 2 touch, 3 step, 4 read and 5 close; another number asks nothing
 abbrev pub script_call : List ℕ → ScriptCall → Asking
@@ -40,6 +44,10 @@ abbrev pub asks : Result (Option Asked) Fault → Asking
 asks (Ok call) = Ok (option_map asked call)
 asks (Err f) = Err (refusal f)
 
+-- what an open that is refused is answered where a ring of L cells is open: nothing, unless the states allow open there
+abbrev pub refused_open : {A : Type 0} → ℕ → Refusal → Option (Answer A)
+refused_open L f = cond (allowed (opens []) L) (Some (refused f)) None
+
 -- an answer that is no line of the log
 abbrev pub unplayed : {A : Type 0} → Played A → Option (Answer A) → Played A
 unplayed p a = record { log = p.log; strips = p.strips; said = p.said ++ (a ∷ []) }
@@ -55,11 +63,11 @@ zeroed K cells = record {
 }
 
 module _ {C : Type 0} (K : Kind C) (r : Local) (d : Weights K.group.Carrier) where
-  -- one struct more: what asks nothing has no answer, and what is refused has its refusal
+  -- one struct more; what asks nothing has no answer
   abbrev pub obeyed : Played K.group.Carrier → Asking → Played K.group.Carrier
   obeyed p (Ok (Some call)) = played_more K r d p call
   obeyed p (Ok None) = unplayed p None
-  obeyed p (Err f) = unplayed p (Some (refused f))
+  obeyed p (Err f) = unplayed p (refused_open (length (standing p.log).cells) f)
 
   -- a script played from the making of a bench on
   abbrev pub session : Strips K.group.Carrier → List Asking → Played K.group.Carrier
@@ -69,4 +77,4 @@ module _ {C : Type 0} (K : Kind C) (r : Local) (d : Weights K.group.Carrier) whe
   abbrev pub Obeys : ℕ → Strips K.group.Carrier → Asking → Option (Answer K.group.Carrier) → Strips K.group.Carrier → ℕ → Type 0
   Obeys L s (Ok (Some call)) said left cells = (said ≡ said_to K r d L call s) × (left ≡ left_by K r d L call s) × (cells ≡ cells_after K r d L call s)
   Obeys L s (Ok None) said left cells = (said ≡ None) × (left ≡ s) × (cells ≡ L)
-  Obeys L s (Err f) said left cells = (said ≡ Some (refused f)) × (left ≡ s) × (cells ≡ L)
+  Obeys L s (Err f) said left cells = (said ≡ refused_open L f) × (left ≡ s) × (cells ≡ L)

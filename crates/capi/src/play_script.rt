@@ -4,7 +4,8 @@ ghost use Rattle.std.specs.Option.{option_map};
 ghost use Rattle.bench.specs.States.{holding_bench};
 ghost use Rattle.player.specs.Answers.{strips, answered, open_cells};
 ghost use Rattle.player.specs.Promises.{player_ring, player_holding, ring_len};
-ghost use Rattle.capi.specs.Scripts.{asks, script_call, Obeys};
+ghost use Rattle.fault.specs.Refusals.{refusal};
+ghost use Rattle.capi.specs.Scripts.{asks, script_call, refused_open, Obeys};
 ghost use Rattle.capi.specs.Playing.{Answered};
 
 use crate::answers::{ScriptAnswer, script_answer};
@@ -15,6 +16,20 @@ use charge::Charge;
 use fault::Fault;
 use player::{Answer, Call, Player, PlayerOf, obey};
 use preset::Sent;
+
+// What an open that is refused is answered.
+fn refused_open<C: Charge, R: Rule, D: Density<C>>(
+    player: &PlayerOf<C, R, D>,
+    fault: Fault,
+) -> Option<Answer<C>>
+    ensures { option_map (answered C.kind) result
+        ≡ refused_open (open_cells ring_len player.now) (refusal fault) }
+{
+    match player {
+        Player::Idle(_) => Some(Answer::Refused(fault)),
+        Player::Playing(_) => None,
+    }
+}
 
 // Answers what a struct asks.
 fn answer_one<C: Charge, R: Rule, D: Density<C>>(
@@ -37,7 +52,10 @@ fn answer_one<C: Charge, R: Rule, D: Density<C>>(
     match asked {
         Ok(Some(call)) => obey(player, call, cells, spare, opening, crossed, touched),
         Ok(None) => (player, None),
-        Err(fault) => (player, Some(Answer::Refused(fault))),
+        Err(fault) => {
+            let answer = refused_open(&player, fault);
+            (player, answer)
+        }
     }
 }
 

@@ -3,6 +3,7 @@ ghost use Rattle.std.specs.Prelude.{◌≡◌};
 ghost use Rattle.automaton.specs.Making.{lent_items};
 ghost use Rattle.capi.specs.Scripts.{ring_at, script_call, asks};
 
+use fault::limits::MOST_CELLS;
 use fault::{Fault, Stop};
 use player::Call;
 
@@ -27,13 +28,13 @@ pub struct ScriptCall {
     pub len: usize,
 }
 
-// A ring from the letters of all rings.
+// A ring from the letters of all rings. Its length is tested here too, before their end, so that the lowest code that fits
+// is answered.
 fn ring_at(letters: &[u8], at: usize, len: usize) -> Result<&[u8], Fault>
     ensures { lent_items result ≡ ring_at letters.now at len }
 {
-    if at > letters.len() || len > letters.len() - at {
-        return Err(Stop::ShortStrip.at(0));
-    }
+    Stop::BadLength.unless(1 <= len && len <= MOST_CELLS)?;
+    Stop::ShortStrip.unless(at <= letters.len() && len <= letters.len() - at)?;
     Ok(&letters[at..at + len])
 }
 

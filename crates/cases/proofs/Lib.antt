@@ -1,2 +1,3 @@
+pub mod Classes
 pub mod Spelt
 pub mod WorkedLog

@@ -2,12 +2,13 @@
 use Rattle.std.specs.Prelude.{ℕ, ◌/◌, ◌%◌, ◌^◌, List, [], ◌∷◌, map, replicate, pos, Ok, Result}
 use Rattle.std.proofs.Common.{lit<}
 use Rattle.fault.specs.Refusals.{Refusal}
+use Rattle.charge.specs.Groups.{Group, minus}
 use Rattle.charge.specs.Kinds.{voices, pitch, channels, pitch_means, channel_means}
 use Rattle.charge.specs.declared.kind.ChargeKind.TheVariants.{Voices}
 use Rattle.charge.specs.Ranges.{pitch_end, channel_bits}
 use Rattle.charge.specs.Residues.{Below, residue}
 use Rattle.automaton.specs.Making.{table_rule, pattern_density}
-use Rattle.automaton.specs.Meanings.{Local, Weights}
+use Rattle.automaton.specs.Meanings.{Local, Weights, next, total}
 use Rattle.automaton.specs.Words.{code, table}
 use Rattle.bench.specs.Benches.{Bench, bench_of}
 use Rattle.bench.specs.Verdicts.{Judgement, breaks}
@@ -61,6 +62,10 @@ bench_150 = bench_of channels (elementary 150) (weighing (channel_set 0) (channe
 
 abbrev pub bench_of_ones : Bench pitch
 bench_of_ones = bench_of pitch ones (weighing (class 0) (class 4))
+
+-- what a ring gains in a step: its total afterwards less its total before
+abbrev pub gain : (G : Group) → Local → Weights G.Carrier → List ℕ → G.Carrier
+gain G r d c = minus G (total G d (next r c)) (total G d c)
 
 -- the break of a bench
 abbrev pub broken_at : {A : Type 0} → ℕ → ℕ → A → A → Result (Judgement A) Refusal

@@ -1,20 +1,21 @@
 // Worked examples that are proved.
-ghost use Rattle.std.specs.Prelude.{◌≡◌, ℕ, [], ◌∷◌, true, replicate, Some, None, Ok, Err};
+ghost use Rattle.std.specs.Prelude.{◌≡◌, ℕ, [], ◌∷◌, true, replicate, pos, Some, None, Ok, Err};
 ghost use Rattle.fault.specs.declared.Stop.TheVariants.{CutShort, Misspelt};
 ghost use Rattle.fault.specs.Refusals.{refused_at};
 ghost use Rattle.charge.specs.Kinds.{voices, pitch};
 ghost use Rattle.criterion.specs.Balance.{ring_a};
 ghost use Rattle.criterion.specs.Search.{padding, sums_to_zero};
 ghost use Rattle.bench.specs.Benches.{label_of};
+ghost use Rattle.bench.specs.Laws.{integers};
 ghost use Rattle.bench.specs.Verdicts.{holds, agree, judge_found, judge_crossings, judging, compare_crossings, comparing};
 ghost use Rattle.preset.specs.Numbers.{number as numeral, spelling};
 ghost use Rattle.preset.specs.Presets.{whole_preset};
-ghost use Rattle.cases.specs.Examples.{count, class, residues, elementary, flip, counting, bench_150, bench_of_ones};
-ghost use Rattle.cases.specs.Examples.{broken_at, pattern_10, pattern_01, bytes_184, preset_184};
+ghost use Rattle.cases.specs.Examples.{count, class, residues, elementary, ones, flip, weighing, counting, bench_150, bench_of_ones};
+ghost use Rattle.cases.specs.Examples.{gain, broken_at, pattern_10, pattern_01, bytes_184, preset_184};
 ghost use Rattle.cases.specs.WorkedLog.{WorkedLog, session, counts};
 
 // Each clause is about the very definitions that the contracts of the calls go by. The function itself does nothing.
-#[tactic(auto, using(crate::proofs::Spelt::spelt_largest, crate::proofs::WorkedLog::worked_log))]
+#[tactic(auto, using(crate::proofs::Spelt::spelt_largest, crate::proofs::Classes::twelve_in_pitch, crate::proofs::WorkedLog::worked_log))]
 pub fn worked_examples()
     // Numbers as written and as read: 300 is 82 2C, and the largest is 8F FF FF FF 7F.
     ensures spelt_300 { spelling (replicate 2 0) 0 300 ≡ Ok (130 ∷ 44 ∷ []) }
@@ -42,7 +43,10 @@ pub fn worked_examples()
     // Rule 150 holds in channels, where the letter 1 weighs channel set 1.
     ensures rule_150 { judging bench_150 4 5 ≡ Ok holds }
     ensures crossings_150 { residues (judge_crossings bench_150 4 5) ≡ 0 ∷ 1 ∷ 1 ∷ 0 ∷ [] }
-    // Every answer 1, in pitch, where the letter 1 weighs 4: the word 00 fails. The ring 000 gains 12, which is 0, so 00 is shown.
+    // Every answer 1, in pitch, where the letter 1 weighs 4: the word 00 fails. As a whole number the ring 000 gains 12,
+    // which is 0 in pitch, so 00 is shown.
+    ensures gain_000 { gain integers ones (weighing (pos 0) (pos 4)) (0 ∷ 0 ∷ 0 ∷ []) ≡ pos 12 }
+    ensures twelve_in_pitch { class 12 ≡ class 0 }
     ensures sum_000 { sums_to_zero pitch (label_of bench_of_ones) (ring_a padding 1 (0 ∷ 0 ∷ []))
         ≡ true }
     ensures ones_in_pitch { judging bench_of_ones 2 3 ≡ broken_at 0 2 (class 0) (class 8) }
