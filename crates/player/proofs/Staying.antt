@@ -23,7 +23,7 @@ past-later : {X : Type 0} (n m : ℕ) (old new : List X) → n ≤ m → drop n 
 past-later n m old new less e =
     ap (λ k. drop k new) split ∙ sym (drop-drop (m - n) n new) ∙ ap (drop (m - n)) e ∙ drop-drop (m - n) n old ∙ ap (λ k. drop k old) (sym split)
   where
-    split : m ≡ m - n + n
+    split : m ≡ n + (m - n)
     split = omega arith
 
 -- one call more, which writes no charge past the first m
@@ -99,7 +99,7 @@ module _ {C : Type 0} (K : Kind C) (r : Local) (d : Weights K.group.Carrier) whe
   -- ring that is open.
   pub record Stayed (p : Played K.group.Carrier) (old now : Strips C) : Type 0 where
     pub past : StaysPast (front_of_all (longest_opened p.log)) old now
-    pub open : length (standing p.log).cells ≤ longest_opened p.log
+    pub standing_within : length (standing p.log).cells ≤ longest_opened p.log
 
   -- one call more
   pub stayed_more : (s : Strips K.group.Carrier) (script : List Call) (call : Call) (answer : Option (Answered C)) (old mid new : Strips C) →
@@ -111,19 +111,19 @@ module _ {C : Type 0} (K : Kind C) (r : Local) (d : Weights K.group.Carrier) whe
       let L : ℕ = length (standing p.log).cells in
       let m : ℕ = longest_opened (logged K r d L call p.strips p.log) in
       record {
-        past = stays-more (longest_opened p.log) m (written answer call L) old mid new (longer p.log call p.strips L) (written-within p.log call p.strips L stayed.open answer said) stayed.past more;
-        open = subst (λ n. n ≤ m) (cells_stand K r d s script call) (cells-within p.log call p.strips L stayed.open);
+        past = stays-more (longest_opened p.log) m (written answer call L) old mid new (longer p.log call p.strips L) (written-within p.log call p.strips L stayed.standing_within answer said) stayed.past more;
+        standing_within = subst (λ n. n ≤ m) (cells_stand K r d s script call) (cells-within p.log call p.strips L stayed.standing_within);
       }
 
 -- what an accepted or refused call leaves of one strip of charges
 module _ {C : Type 0} where
   pub touch-stays : (told : Result (Unit {0}) Fault) (L i a : ℕ) (old new : Strips C) → new.opening ≡ old.opening → new.crossed ≡ old.crossed →
-      Stays told L old.touched new.touched → StaysPast (written (Some (done_answer told)) (touches i a) L) old new
+      Stays told L old.touched new.touched → StaysPast (written {C = C} (Some (done_answer told)) (touches i a) L) old new
   touch-stays (Ok t) L i a old new o c s = (o, c, s)
   touch-stays (Err f) L i a old new o c s = (o, c, s)
 
   pub step-stays : (told : Result (Unit {0}) Fault) (L : ℕ) (old new : Strips C) → new.opening ≡ old.opening → new.touched ≡ old.touched →
-      Stays told L old.crossed new.crossed → StaysPast (written (Some (done_answer told)) steps L) old new
+      Stays told L old.crossed new.crossed → StaysPast (written {C = C} (Some (done_answer told)) steps L) old new
   step-stays (Ok t) L old new o u s = (o, s, u)
   step-stays (Err f) L old new o u s = (o, s, u)
 

@@ -1,4 +1,7 @@
+use Rattle.bench.specs.States.{holding_bench}
+use Rattle.bench.proofs.Searches.{sizes-pass}
 use Rattle.player.specs.Calls.{charges}
+use Rattle.player.proofs.Logs.{logs_true_on}
 use Rattle.player.proofs.Opens.{opens_does, opens_past}
 use Rattle.player.proofs.playing.Playing.open.Goals as goal
 
@@ -25,3 +28,13 @@ returns-in-Ok-clause-past g c =
       opens_past K a.ring.now ring (λ _. K.group.zero) a.crossed.now c.open_on.new.crossed same left.crossed,
       opens_past K a.ring.now ring (λ _. K.group.zero) a.touched.now c.open_on.new.touched same left.touched,
     )
+
+pub returns-in-Ok-clause-logs : goal.returns-in-Ok-clause-logs
+returns-in-Ok-clause-logs g c =
+    let h = c.args.bench in
+    logs_true_on (holding_bench h) (g.R.Rule.lawful h.parts.rule) (g.D.Density.lawful g.C.Charge.kind h.parts.density) (sizes-pass h.sizes (holding_bench h) h.sized) h.holds
+
+pub returns-in-Err-clause-logs : goal.returns-in-Err-clause-logs
+returns-in-Err-clause-logs g c =
+    let h = c.args.bench in
+    logs_true_on (holding_bench h) (g.R.Rule.lawful h.parts.rule) (g.D.Density.lawful g.C.Charge.kind h.parts.density) (sizes-pass h.sizes (holding_bench h) h.sized) h.holds
