@@ -1,7 +1,7 @@
 // Benches judged and densities compared.
 use crate::numbers;
 use automaton::{Density, PatternDensity, Rule, SumRule, TableDensity, TableRule};
-use bench::{Break, Draft, compare};
+use bench::{Break, Comparison, Draft, compare};
 use charge::{Channels, Charge, Pitch, Voices};
 use fault::Fault;
 
@@ -180,7 +180,7 @@ fn compared(
     second: [u8; 2],
     crossings: &mut [Voices],
     ring: &mut [u8],
-) -> Result<Option<Break<Voices>>, Fault> {
+) -> Result<Comparison<Voices>, Fault> {
     let mut one = PatternDensity::zero();
     one.fill(2, 2, &first, voices(1))?;
     let mut other = PatternDensity::zero();
@@ -194,7 +194,7 @@ fn patterns_10_and_01_agree(rt: HostRuntime) {
     let mut ring = [9u8; 3];
     assert_eq!(rt;
         compared([1, 0], [0, 1], &mut crossings, &mut ring),
-        Ok(None)
+        Ok(Comparison::Agree)
     );
     assert_eq!(rt; crossings, [voices(0), voices(1)]);
     assert_eq!(rt; ring, [9, 9, 9]);
@@ -210,7 +210,7 @@ fn patterns_10_and_11_differ(rt: HostRuntime) {
     let mut crossings = [voices(77); 2];
     let mut ring = [9u8; 3];
     let found = compared([1, 0], [1, 1], &mut crossings, &mut ring);
-    assert_eq!(rt; found.map(|found| found.map(place)), Ok(Some((0b10, 3))));
+    assert_eq!(rt; found.map(|found| found.found().map(place)), Ok(Some((0b10, 3))));
     assert_eq!(rt; ring, [1, 0, 0]);
 }
 

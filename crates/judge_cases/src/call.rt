@@ -75,7 +75,7 @@ fn compare_case<C: Tried, W: Write>(
     let second = second.density().map_err(CaseError::Second)?;
     let m = first.k().max(second.k());
     let mut strips = Strips::<C>::new(alloc, rooms, first.q(), m)?;
-    let found = compare(&first, &second, &mut strips.crossings, &mut strips.ring)?;
+    let found = compare(&first, &second, &mut strips.crossings, &mut strips.ring)?.found();
     strips.write_found(out, "agree", "differ", found)?;
     Ok(())
 }

@@ -9,6 +9,7 @@ pub mod Stepped
 pub mod Moves
 pub mod Kept
 pub mod Logs
+pub mod HoldingLogs
 pub mod Refusals
 pub mod Steps
 pub mod Scripts

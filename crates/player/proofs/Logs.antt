@@ -11,14 +11,13 @@ use Rattle.automaton.specs.Meanings.{Local, Weights, Lawful, Weighed, next}
 use Rattle.automaton.proofs.Passes.{ring-letters}
 use Rattle.automaton.proofs.Rings.{length-table}
 use Rattle.automaton.proofs.Steps.{length-next}
-use Rattle.bench.specs.Laws.{KeepsTotal, NoneChanges}
-use Rattle.bench.specs.Benches.{Bench, bench_of}
-use Rattle.bench.proofs.Known.{keeps_total}
+use Rattle.bench.specs.Laws.{KeepsTotal}
+use Rattle.bench.specs.Benches.{bench_of}
 use Rattle.bench.specs.Verdicts.{bench_checked}
 use Rattle.player.specs.Calls.{Call, Ring, Strips, Outcome, size, checked, front, charges, crossing_at, opened, put, stepped, work, answer, worked, passed_or}
 use Rattle.player.specs.Calls.Call.{opens, touches, steps, reads, closes}
 use Rattle.player.specs.Calls.Answer.{refused}
-use Rattle.player.specs.Logs.{Line, Log, allowed, ended, used, accepted, Accepted, standing, HandedOn, OnEveryLine, plain_answer, plain_after, plain, GoesOn, WithoutGaps, ArcsAgree, LineTrue, LogsTrueOn, LogsTrue}
+use Rattle.player.specs.Logs.{Line, Log, allowed, ended, used, accepted, Accepted, standing, HandedOn, OnEveryLine, plain_answer, plain_after, plain, GoesOn, WithoutGaps, ArcsAgree, LineTrue, LogsTrue}
 use Rattle.player.specs.Logs.Log.{made, ◌then◌}
 use Rattle.player.proofs.Passed.{letters_passed, last_below}
 use Rattle.player.proofs.Kept.{Kept, length-booked, opened_kept, put_kept, stepped_kept, arcs_agree}
@@ -178,7 +177,3 @@ module _ {C : Type 0} (K : Kind C) (r : Local) (d : Weights K.group.Carrier) (la
 
 pub logs_true : {C : Type 0} (K : Kind C) → LogsTrue K
 logs_true K = lines_true K
-
--- on a bench whose type says that it holds, every log without gaps is true
-pub logs_true_on : {C : Type 0} {K : Kind C} (b : Bench K) → Lawful b.rule → Weighed b.density → bench_checked b ≡ Ok tt → NoneChanges K.group b.rule b.density → LogsTrueOn b
-logs_true_on {C} {K} b lawful weighed passed none = logs_true K b.rule b.density lawful weighed passed (keeps_total K b.rule b.density none)

@@ -124,6 +124,7 @@ fn obey_playing<C: Charge, R: Rule, D: Density<C>>(
 }
 
 // Answers a call. One that the state does not allow has no answer. The bench holds, so every log of it is true.
+#[tactic(auto, using(crate::proofs::HoldingLogs::holding_logs))]
 pub fn obey<C: Charge, R: Rule, D: Density<C>>(
     player: PlayerOf<C, R, D>,
     call: Call<'_>,

@@ -30,5 +30,5 @@ pub(crate) fn compare_tables<C: Charge>(
     density.fill(first.q, first.k, charges)?;
     let mut other = TableDensity::zero();
     other.fill(second.q, second.k, others)?;
-    compare(&density, &other, crossings, ring)
+    Ok(compare(&density, &other, crossings, ring)?.found())
 }

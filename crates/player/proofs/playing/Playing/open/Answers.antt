@@ -1,7 +1,5 @@
-use Rattle.bench.specs.States.{holding_bench}
-use Rattle.bench.proofs.Searches.{sizes-pass}
 use Rattle.player.specs.Calls.{charges}
-use Rattle.player.proofs.Logs.{logs_true_on}
+use Rattle.player.proofs.HoldingLogs.{holding_logs}
 use Rattle.player.proofs.Opens.{opens_does, opens_past}
 use Rattle.player.proofs.playing.Playing.open.Goals as goal
 
@@ -30,11 +28,7 @@ returns-in-Ok-clause-past g c =
     )
 
 pub returns-in-Ok-clause-logs : goal.returns-in-Ok-clause-logs
-returns-in-Ok-clause-logs g c =
-    let h = c.args.bench in
-    logs_true_on (holding_bench h) (g.R.Rule.lawful h.parts.rule) (g.D.Density.lawful g.C.Charge.kind h.parts.density) (sizes-pass h.sizes (holding_bench h) h.sized) h.holds
+returns-in-Ok-clause-logs g c = holding_logs c.args.bench
 
 pub returns-in-Err-clause-logs : goal.returns-in-Err-clause-logs
-returns-in-Err-clause-logs g c =
-    let h = c.args.bench in
-    logs_true_on (holding_bench h) (g.R.Rule.lawful h.parts.rule) (g.D.Density.lawful g.C.Charge.kind h.parts.density) (sizes-pass h.sizes (holding_bench h) h.sized) h.holds
+returns-in-Err-clause-logs g c = holding_logs c.args.bench
