@@ -10,10 +10,11 @@ use Rattle.charge.proofs.Sums.{sum_same}
 use Rattle.charge.proofs.Integers.{means-zero, means-add, means-neg, means-signed, means_apart, entry_small}
 use Rattle.automaton.specs.Words.{code, repeated, window, cell, before}
 use Rattle.automaton.specs.Meanings.{Weights, weight, next, site, booking_offset, total}
+use Rattle.automaton.specs.Ranges.{InRange}
 use Rattle.criterion.specs.Balance.{crossing}
 use Rattle.criterion.proofs.Statements.{Holds}
 use Rattle.bench.specs.Labels.{next_letters, rule_label, two_label}
-use Rattle.bench.specs.Laws.{integers, whole, InRange, VerdictWhole, ComparisonWhole}
+use Rattle.bench.specs.Laws.{integers, whole, VerdictWhole, ComparisonWhole}
 use Rattle.bench.proofs.Verdicts.{verdict, comparison}
 
 nat_abs-minus : (x y : ℤ) → nat_abs (minus integers x y) ≤ nat_abs x + nat_abs y
