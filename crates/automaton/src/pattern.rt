@@ -20,6 +20,7 @@ pub struct PatternDensity<C: Charge> {
     pattern: usize,
     charge: C,
     ghost within: { pattern < words.count },
+    // Zero, which a density that gives nothing has here, need not be an entry.
     ghost allowed: { IsTrue (entry_or_zero C.kind charge) },
 }
 
