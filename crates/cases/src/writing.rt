@@ -60,8 +60,12 @@ fn groups_of_seven_bits(rt: HostRuntime) {
     );
     assert_eq!(rt; out, [9; 21]);
     assert_eq!(rt; written(VOICES, &RULE_184, &entries, &mut out), Ok(20));
-    assert_eq!(rt; out[0..13], [0, 2, 3, 1, 1, 0, 0, 0, 1, 1, 1, 0, 1]);
-    assert_eq!(rt; out[13..21], [0x82, 0x2c, 0x8f, 0xff, 0xff, 0xff, 0x7f, 9]);
+    assert_eq!(rt;
+        out,
+        [
+            0, 2, 3, 1, 1, 0, 0, 0, 1, 1, 1, 0, 1, 0x82, 0x2c, 0x8f, 0xff, 0xff, 0xff, 0x7f, 9
+        ]
+    );
 }
 
 #[test]
