@@ -1,4 +1,4 @@
-use Rattle.std.proofs.Common.{ℕ, ◌%◌, ◌^◌, sym, ◌∙◌, arith}
+use Rattle.std.proofs.Common.{◌%◌, ◌^◌, sym, ◌∙◌, arith}
 use Rattle.charge.specs.Kinds.{channels}
 use Rattle.automaton.proofs.Rings.{get_or-table, table-past}
 use Rattle.cases.proofs.wide.LastDensityChannels.charge.Goals as goal
