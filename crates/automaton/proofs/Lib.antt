@@ -2,6 +2,7 @@ pub mod Codes
 pub mod Rings
 pub mod Lookups
 pub mod Passes
+pub mod VoicesInRange
 pub mod Windows
 pub mod Steps
 pub mod Parts

@@ -1,6 +1,6 @@
 -- What a rule or a density has passed once it is made. Assumes nothing.
 use Rattle.std.proofs.Common.{◌≡◌, ℕ, zero, suc, ◌+◌, ◌<◌, ◌≤◌, Bool, true, false, cond, ltb, List, [], ◌∷◌, length, get_or, take, not, Some, Ok, Err, sym, refl, ap, ◌∙◌, subst, arith, length-take-le}
-use Rattle.std.specs.List.{position, position_from}
+use Rattle.std.specs.List.{list_all, position, position_from}
 use Rattle.std.specs.Option.{option_map_or}
 use Rattle.std.proofs.lemmas.Iterator.Adapters.{position_from-zero}
 use Rattle.std.proofs.lemmas.Bool.{ltb-true, lt-ltb}
@@ -19,6 +19,12 @@ pub each_passes : {X : Type 0} (allows : X → Bool) (stop : Stop) (none : X) (i
 each_passes allows stop none i [] e j h = absurd (omega arith)
 each_passes allows stop none i (x ∷ xs) e zero h = grind (arith, nat_tests)
 each_passes allows stop none i (x ∷ xs) e (suc j) h = each_passes allows stop none (i + 1) xs (grind (arith, nat_tests)) j (omega arith)
+
+pub all_pass : {X : Type 0} (allows : X → Bool) (stop : Stop) (i : ℕ) (xs : List X) → each_fits allows stop i xs ≡ Ok tt → list_all allows xs ≡ true
+all_pass allows stop i [] e = refl
+all_pass allows stop i (x ∷ xs) e =
+    let rest = all_pass allows stop (i + 1) xs (grind (arith, nat_tests)) in
+    grind (arith, nat_tests)
 
 -- the first item that does not pass, by its index
 module _ {X : Type 0} (fits : X → Bool) (stop : Stop) where

@@ -1,6 +1,7 @@
 pub mod Words
 pub mod Tables
 pub mod Meanings
+pub mod Ranges
 pub mod Making
 pub mod Lookups
 pub mod Shown

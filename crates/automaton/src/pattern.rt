@@ -1,8 +1,9 @@
 // Densities of one word and one charge.
-ghost use Rattle.std.specs.Prelude.{◌≡◌, ◌<◌, take, if◌then◌else◌, OnOk, OnErr, nat_eq, nat_lt};
+ghost use Rattle.std.specs.Prelude.{◌≡◌, ◌<◌, take, if◌then◌else◌, IsTrue, OnOk, OnErr, nat_eq, nat_lt};
 ghost use Rattle.fault.specs.Answers.{plainly};
 ghost use Rattle.automaton.specs.Words.{code};
 ghost use Rattle.fault.specs.declared.Stop.TheVariants.{BadLetter};
+ghost use Rattle.automaton.specs.Ranges.{entry_or_zero};
 ghost use Rattle.automaton.specs.Making.{pattern_density, zero_density, pattern_making, done, lent_items, taken};
 
 use crate::density::Density;
@@ -14,11 +15,13 @@ use fault::{Fault, Stop};
 
 // A density that gives its charge on one word, known by its code, and zero on all others.
 #[derive(Drop)]
-pub struct PatternDensity<C> {
+pub struct PatternDensity<C: Charge> {
     words: Words,
     pattern: usize,
     charge: C,
     ghost within: { pattern < words.count },
+    // Zero, which a density that gives nothing has here, need not be an entry.
+    ghost allowed: { IsTrue (entry_or_zero C.kind charge) },
 }
 
 impl<C: Charge> Density<C> for PatternDensity<C> {
@@ -42,7 +45,7 @@ impl<C: Charge> Density<C> for PatternDensity<C> {
 }
 
 impl<C: Charge> PatternDensity<C> {
-    ghost use Rattle.automaton.specs.Meant.{pattern_meant};
+    ghost use Rattle.automaton.specs.Meant.{pattern_meant, PatternsInRange};
 
     // The density of two letters that weigh nothing.
     pub fn zero() -> PatternDensity<C>
@@ -56,11 +59,13 @@ impl<C: Charge> PatternDensity<C> {
     }
 
     // Becomes the density of a word and its charge, or refuses and stays as it was.
+    #[tactic(auto, using(crate::proofs::VoicesInRange::patterns_in_range))]
     pub fn fill(&mut self, q: u64, k: u64, word: &[u8], charge: C) -> Result<(), Fault>
         ensures answer { plainly result ≡ done (pattern_making C.kind q k word.now charge) }
         ensures density { OnOk result (pattern_meant C.kind self.new
             ≡ pattern_density C.kind q k (code q (take k word.now)) charge) }
         ensures err { OnErr result (self.new ≡ self.old) }
+        ensures in_range { PatternsInRange }
     {
         let words = check_density(q, k)?;
         let letters = pattern_letters(words, word)?;

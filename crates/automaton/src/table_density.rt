@@ -1,5 +1,6 @@
 // Densities by a lent table of their charges.
-ghost use Rattle.std.specs.Prelude.{◌≡◌, ◌<◌, ◌≤◌, length, OnOk, OnErr, slice_index_or};
+ghost use Rattle.std.specs.Prelude.{◌≡◌, ◌<◌, ◌≤◌, length, IsTrue, OnOk, OnErr, slice_index_or};
+ghost use Rattle.std.specs.List.{list_all};
 ghost use Rattle.fault.specs.Answers.{plainly};
 ghost use Rattle.fault.specs.declared.Stop.TheVariants.{BadEntry};
 ghost use Rattle.automaton.specs.Making.{table_density, zero_density, table_making, done, lent_items, taken};
@@ -12,10 +13,11 @@ use fault::Fault;
 
 // A density of which the charges stand in a table, in the order of the codes.
 #[derive(Drop)]
-pub struct TableDensity<'a, C> {
+pub struct TableDensity<'a, C: Charge> {
     words: Words,
     entries: &'a [C],
     ghost exact: { length entries.now ≤ words.count },
+    ghost allowed: { IsTrue (list_all C.kind.entry entries.now) },
 }
 
 impl<C: Charge> Density<C> for TableDensity<'_, C> {
@@ -39,7 +41,7 @@ impl<C: Charge> Density<C> for TableDensity<'_, C> {
 }
 
 impl<'a, C: Charge> TableDensity<'a, C> {
-    ghost use Rattle.automaton.specs.Meant.{table_meant};
+    ghost use Rattle.automaton.specs.Meant.{table_meant, TablesInRange};
 
     // The density of two letters that weigh nothing.
     pub fn zero() -> TableDensity<'a, C>
@@ -52,11 +54,13 @@ impl<'a, C: Charge> TableDensity<'a, C> {
     }
 
     // Becomes the density of a table, or refuses and stays as it was.
+    #[tactic(auto, using(crate::proofs::VoicesInRange::tables_in_range))]
     pub fn fill(&mut self, q: u64, k: u64, entries: &'a [C]) -> Result<(), Fault>
         ensures answer { plainly result ≡ done (table_making C.kind q k entries.now) }
         ensures density { OnOk result (table_meant C.kind self.new
             ≡ table_density C.kind q k entries.now) }
         ensures err { OnErr result (self.new ≡ self.old) }
+        ensures in_range { TablesInRange }
     {
         let words = check_density(q, k)?;
         let entries = table_entries(words, entries)?;

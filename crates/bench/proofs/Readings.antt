@@ -13,10 +13,11 @@ use Rattle.charge.proofs.Integers.{means-zero, means-add, means-neg, means-signe
 use Rattle.charge.proofs.Wraps.{wrapped_same}
 use Rattle.automaton.specs.Words.{code, repeated, window, cell, before}
 use Rattle.automaton.specs.Meanings.{Local, Weights, weight, site, booking_offset, total}
+use Rattle.automaton.specs.Ranges.{InRange}
 use Rattle.criterion.specs.Balance.{crossing}
 use Rattle.criterion.proofs.Failing.{decides-same}
 use Rattle.bench.specs.Labels.{next_letters, rule_label, two_label}
-use Rattle.bench.specs.Laws.{integers, whole, InRange}
+use Rattle.bench.specs.Laws.{integers, whole}
 
 -- X is what a whole number x of size at most t means
 pub record Reads (x : ℤ) (X : Below (2 ^ 64)) (t : ℕ) : Type 0 where

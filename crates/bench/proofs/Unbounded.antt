@@ -9,6 +9,7 @@ use Rattle.charge.specs.Kinds.{voice_group, voices, signed}
 use Rattle.charge.specs.Residues.{Below}
 use Rattle.automaton.specs.Words.{code, word, window, table, cell}
 use Rattle.automaton.specs.Meanings.{Local, Weights, Weighed, weight, next, total}
+use Rattle.automaton.specs.Ranges.{InRange}
 use Rattle.automaton.proofs.Codes.{length-word}
 use Rattle.automaton.proofs.Steps.{length-next}
 use Rattle.criterion.specs.Answers.{examined}
@@ -17,7 +18,7 @@ use Rattle.criterion.specs.Search.{padding, first_of, sums_to_zero, J, crossings
 use Rattle.criterion.proofs.Pads.{length_pad}
 use Rattle.bench.specs.Labels.{listed, rule_label, two_label}
 use Rattle.bench.specs.Benches.{total_before, total_after}
-use Rattle.bench.specs.Laws.{integers, whole, InRange, VerdictRight, ComparisonRight}
+use Rattle.bench.specs.Laws.{integers, whole, VerdictRight, ComparisonRight}
 use Rattle.bench.specs.Verdicts.{Broken, broken, verdict_of, comparison_of, Found, bench_checked, pair_checked, judge_found, compare_found}
 use Rattle.bench.specs.Unbounded.{unbounded, whole_bench, whole_break, whole_judgement, whole_comparison, VerdictUnbounded, ComparisonUnbounded}
 use Rattle.bench.proofs.Readings.{Reads, zero-reads, signed-reads, tested-reads, sum-reads, crossing-reads, crossed-reads, whole-reads, total-reads, label_end, rule_label-reads, two_label-reads}

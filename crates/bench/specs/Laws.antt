@@ -1,14 +1,14 @@
 -- What the bench's verdicts say of rings. Assumes nothing.
-use Rattle.std.specs.Prelude.{◌≡◌, ℕ, ◌+◌, ◌-◌, ◌*◌, ◌^◌, ◌<◌, ◌≤◌, max, true, ◌↔◌, List, map, length, ℤ, pos, ◌+ℤ◌, neg_ℤ, Some, None, Ok, Err, Option, Result, ◌≢◌, slice_index_or}
+use Rattle.std.specs.Prelude.{◌≡◌, ℕ, ◌+◌, ◌-◌, ◌*◌, ◌^◌, ◌<◌, ◌≤◌, max, ◌↔◌, List, map, length, ℤ, pos, ◌+ℤ◌, neg_ℤ, Some, None, Ok, Err, Option, Result, ◌≢◌}
 use Rattle.std.proofs.Math.IntN.{+ℤ_assoc, +ℤ_comm, +ℤ_idl, +ℤ_invr}
 use Rattle.fault.specs.Limits.{most_window, most_width}
 use Rattle.fault.specs.Refusals.{Refusal}
 use Rattle.charge.specs.Groups.{Group, Kind}
 use Rattle.charge.specs.Kinds.{voice_group, signed}
-use Rattle.charge.specs.Ranges.{voices_range}
 use Rattle.charge.specs.Residues.{Below}
 use Rattle.automaton.specs.Words.{Letters}
 use Rattle.automaton.specs.Meanings.{Local, Weights, next, total}
+use Rattle.automaton.specs.Ranges.{InRange}
 use Rattle.criterion.specs.Balance.{OnlyTable}
 use Rattle.criterion.specs.Search.{padding, J}
 use Rattle.bench.specs.Labels.{rule_label, two_label, two_label_list}
@@ -78,10 +78,6 @@ integers = record {
 -- a density in voices, its charges read as whole numbers
 abbrev pub whole : Weights (Below (2 ^ 64)) → Weights ℤ
 whole d = record { q = d.q; k = d.k; charges = map signed d.charges }
-
--- each charge, read as a whole number, is in the range of an entry in voices
-abbrev pub InRange : Weights (Below (2 ^ 64)) → Type 0
-InRange d = (i : ℕ) → voices_range (signed (slice_index_or d.charges i voice_group.zero)) ≡ true
 
 -- with entries in range, what a verdict on voices says is true of whole numbers without bounds
 abbrev pub VerdictWhole : Type 0

@@ -8,10 +8,11 @@ use Rattle.charge.specs.Kinds.{voice_group, voices, signed}
 use Rattle.charge.specs.Ranges.{voices_range}
 use Rattle.charge.specs.Residues.{Below}
 use Rattle.automaton.specs.Meanings.{Weights, Lawful, Weighed}
+use Rattle.automaton.specs.Ranges.{InRange}
 use Rattle.criterion.specs.Search.{padding, crossings}
 use Rattle.bench.specs.Labels.{two_label_list}
 use Rattle.bench.specs.Benches.{Bench, bench_of, crossings_of}
-use Rattle.bench.specs.Laws.{integers, whole, InRange, VerdictRight, ComparisonRight}
+use Rattle.bench.specs.Laws.{integers, whole, VerdictRight, ComparisonRight}
 use Rattle.bench.specs.Verdicts.{Broken, Judgement, holds, breaks, Comparison, agree, differ, judge_found, judging, compare_found, comparing}
 
 -- whole numbers without bounds as a kind of charge: each means itself

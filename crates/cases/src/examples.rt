@@ -1,5 +1,5 @@
 // Worked examples that are proved.
-ghost use Rattle.std.specs.Prelude.{◌≡◌, ℕ, [], ◌∷◌, true, replicate, pos, Some, None, Ok, Err};
+ghost use Rattle.std.specs.Prelude.{◌≡◌, ℕ, [], ◌∷◌, true, pos, Some, None, Ok, Err};
 ghost use Rattle.fault.specs.declared.Stop.TheVariants.{CutShort, Misspelt};
 ghost use Rattle.fault.specs.Refusals.{refused_at};
 ghost use Rattle.charge.specs.Kinds.{voices, pitch};
@@ -8,7 +8,7 @@ ghost use Rattle.criterion.specs.Search.{padding, sums_to_zero};
 ghost use Rattle.bench.specs.Benches.{label_of};
 ghost use Rattle.bench.specs.Laws.{integers};
 ghost use Rattle.bench.specs.Verdicts.{holds, agree, judge_found, judge_crossings, judging, compare_crossings, comparing};
-ghost use Rattle.preset.specs.Numbers.{number as numeral, spelling};
+ghost use Rattle.preset.specs.Numbers.{number as numeral, spell};
 ghost use Rattle.preset.specs.Presets.{whole_preset};
 ghost use Rattle.cases.specs.Examples.{count, class, residues, elementary, ones, flip, weighing, counting, bench_150, bench_of_ones};
 ghost use Rattle.cases.specs.Examples.{gain, broken_at, pattern_10, pattern_01, bytes_184, preset_184};
@@ -18,11 +18,11 @@ ghost use Rattle.cases.specs.WorkedLog.{WorkedLog, session, counts};
 #[tactic(auto, using(crate::proofs::Spelt::spelt_largest, crate::proofs::Classes::twelve_in_pitch, crate::proofs::WorkedLog::worked_log))]
 pub fn worked_examples()
     // Numbers as written and as read: 300 is 82 2C, and the largest is 8F FF FF FF 7F.
-    ensures spelt_300 { spelling (replicate 2 0) 0 300 ≡ Ok (130 ∷ 44 ∷ []) }
+    ensures spelt_300 { spell 300 ≡ 130 ∷ 44 ∷ [] }
     ensures read_300 { numeral 0 (130 ∷ 44 ∷ []) ≡ Ok (300, []) }
     // The largest has a name, v, since to compute its spelling takes as many steps as it is large.
     ensures spelt_largest { (v : ℕ) → v ≡ 4294967295 →
-        spelling (replicate 5 0) 0 v ≡ Ok (143 ∷ 255 ∷ 255 ∷ 255 ∷ 127 ∷ []) }
+        spell v ≡ 143 ∷ 255 ∷ 255 ∷ 255 ∷ 127 ∷ [] }
     ensures read_largest { numeral 0 (143 ∷ 255 ∷ 255 ∷ 255 ∷ 127 ∷ []) ≡ Ok (4294967295, []) }
     // 80, 80 00 and 90 80 80 80 00 are misspelt, and a lone 81 is cut short.
     ensures misspelt_80 { numeral 6 (128 ∷ []) ≡ Err (refused_at Misspelt 6) }

@@ -1,6 +1,6 @@
-// Single numbers.
+// Single numbers, as they are read.
 use fault::Stop;
-use preset::{read_number, write_number};
+use preset::read_number;
 use std::test::Fail;
 
 #[test]
@@ -12,24 +12,6 @@ fn groups_of_seven_bits(rt: HostRuntime) -> Result<(), Fail> {
     assert_eq!(rt; value, 4_294_967_295);
     assert_eq!(rt; rest.len(), 0);
     Ok(())
-}
-
-#[test]
-fn numbers_are_written(rt: HostRuntime) {
-    let mut strip = [9u8; 6];
-    assert_eq!(rt; write_number(300, &mut strip, 1), Ok(3));
-    assert_eq!(rt; strip, [9, 0x82, 0x2c, 9, 9, 9]);
-    assert_eq!(rt; write_number(4_294_967_295, &mut strip, 0), Ok(5));
-    assert_eq!(rt; strip, [0x8f, 0xff, 0xff, 0xff, 0x7f, 9]);
-    assert_eq!(rt;
-        write_number(4_294_967_295, &mut strip, 2),
-        Err(Stop::ShortStrip.at(0))
-    );
-    assert_eq!(rt;
-        write_number(4_294_967_296, &mut strip, 0),
-        Err(Stop::Misspelt.at(0))
-    );
-    assert_eq!(rt; strip, [0x8f, 0xff, 0xff, 0xff, 0x7f, 9]);
 }
 
 #[test]

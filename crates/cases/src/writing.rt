@@ -40,6 +40,34 @@ fn rule_184(rt: HostRuntime) {
     assert_eq!(rt; out, [0, 2, 3, 1, 1, 0, 0, 0, 1, 1, 1, 0, 1, 0, 2, 9]);
 }
 
+// Entries of two and of five bytes: they are sent as 300 and as the largest number.
+#[test]
+fn groups_of_seven_bits(rt: HostRuntime) {
+    let entries = [
+        Entry {
+            signed: 150,
+            plain: 0,
+        },
+        Entry {
+            signed: -2_147_483_648,
+            plain: 0,
+        },
+    ];
+    let mut out = [9u8; 21];
+    assert_eq!(rt;
+        written(VOICES, &RULE_184, &entries, &mut out[0..19]),
+        Err((12, 0))
+    );
+    assert_eq!(rt; out, [9; 21]);
+    assert_eq!(rt; written(VOICES, &RULE_184, &entries, &mut out), Ok(20));
+    assert_eq!(rt;
+        out,
+        [
+            0, 2, 3, 1, 1, 0, 0, 0, 1, 1, 1, 0, 1, 0x82, 0x2c, 0x8f, 0xff, 0xff, 0xff, 0x7f, 9
+        ]
+    );
+}
+
 #[test]
 fn header_refusals(rt: HostRuntime) {
     let mut out = [9u8; 16];

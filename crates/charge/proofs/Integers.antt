@@ -1,10 +1,11 @@
 -- What whole numbers mean in voices: sums go to sums, and small numbers are told apart. Assumes nothing.
-use Rattle.std.proofs.Common.{◌≡◌, ◌+◌, ◌-◌, ◌%◌, ◌^◌, ◌<◌, ◌≤◌, true, ℤ, pos, negsuc, ◌+ℤ◌, neg_ℤ, nat_abs, sym, refl, ap, ◌∙◌, arith, w64, SFits}
+use Rattle.std.proofs.Common.{◌≡◌, ◌+◌, ◌-◌, ◌%◌, ◌^◌, ◌<◌, ◌≤◌, true, ℤ, pos, negsuc, ◌+ℤ◌, neg_ℤ, nat_abs, sym, refl, ap, ◌∙◌, arith, w64, SFits, to_z}
 use borrow.Author.Differences.{up, down}
 use borrow.Author.Gap.{read_sfits}
 use lib.IntN.{+ℤ_invr}
-use Rattle.std.proofs.lemmas.Int.{ints, of_z-to_z}
-use Rattle.charge.specs.Kinds.{voice_group, voice_means, signed}
+use Rattle.std.proofs.lemmas.Int.{ints, of_z-to_z, to_z-of_z}
+use Rattle.charge.specs.Kinds.{voice_group, voice_means, voices, signed}
+use Rattle.charge.specs.declared.voices.Voices.{Voices}
 use Rattle.charge.specs.Ranges.{voices_range}
 use Rattle.charge.specs.Residues.{Below, below_eq}
 use Rattle.charge.proofs.Sums.{neg_is}
@@ -43,3 +44,19 @@ range_small (negsuc n) e = grind arith
 -- the size of a charge in the range of an entry
 pub entry_small : (x : Below (2 ^ 64)) → voices_range (signed x) ≡ true → nat_abs (signed x) ≤ 2 ^ 31
 entry_small x e = range_small (signed x) e
+
+-- a number that fits is read back from its residue
+signed-means : (z : ℤ) → SFits w64 z → signed (voice_means z) ≡ z
+signed-means z f = ap (to_z w64) (means-bits z f) ∙ to_z-of_z w64 z f
+
+-- a charge may be an entry exactly where what it means is in the range of one
+pub entry-means : (v : Voices) → SFits w64 v.count → voices.entry v ≡ voices_range (signed (voices.means v))
+entry-means v f = ap voices_range (sym (signed-means v.count f))
+
+-- a charge that may be an entry means a number in the range of one
+pub entry_in_range : (v : Voices) → voices.entry v ≡ true → voices_range (signed (voices.means v)) ≡ true
+entry_in_range v e = sym (entry-means v (small-fits v.count (omega (arith, range_small v.count e)))) ∙ e
+
+-- zero is in the range of an entry
+pub zero_in_range : voices_range (signed voice_group.zero) ≡ true
+zero_in_range = ap (λ x. voices_range (signed x)) (sym means-zero) ∙ ap voices_range (signed-means (pos 0) (small-fits (pos 0) (omega arith)))

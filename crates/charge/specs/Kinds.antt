@@ -38,6 +38,10 @@ voices = record {
   entry = λ v. voices_range v.count;
 }
 
+-- the class of a pitch
+abbrev pub class_of : Pitch → ℕ
+class_of p = p.class
+
 -- the residue of a class
 abbrev pub pitch_means : ℕ → Below pitch_end
 pitch_means n = residue pitch_end (lit< tt) n
@@ -45,7 +49,7 @@ pitch_means n = residue pitch_end (lit< tt) n
 abbrev pub pitch : Kind Pitch
 pitch = record {
   group = modular pitch_end (lit< tt);
-  means = λ p. pitch_means p.class;
+  means = λ p. pitch_means (class_of p);
   same = same_below;
   decides = decides_below;
   entry = λ _. true;

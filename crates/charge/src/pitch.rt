@@ -16,8 +16,10 @@ pub struct Pitch {
 }
 
 impl Pitch {
+    ghost use Rattle.charge.specs.Kinds.{class_of};
+
     pub fn new(class: u8) -> Option<Pitch>
-        ensures { option_map (λ p. p.class) result
+        ensures { option_map class_of result
             ≡ (if nat_lt class pitch_end then Some class else None) }
     {
         if class < PITCH_CLASSES {
@@ -28,7 +30,7 @@ impl Pitch {
     }
 
     pub fn class(self) -> u8
-        ensures { result ≡ self.class }
+        ensures { result ≡ class_of self }
     {
         self.class
     }

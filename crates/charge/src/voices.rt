@@ -1,6 +1,7 @@
 // Charges of kind voices: whole numbers modulo 2^64, read as signed numbers.
 ghost use Rattle.std.specs.Prelude.{◌≡◌, ◌+◌, ◌-◌, ◌^◌, ◌↔◌, IsTrue};
-ghost use Rattle.charge.specs.Kinds.{bits, wrapped, voices};
+ghost use Rattle.charge.specs.Kinds.{bits, wrapped, signed, voices};
+ghost use Rattle.charge.specs.Ranges.{voices_range};
 
 use crate::Charge;
 
@@ -58,7 +59,11 @@ impl Charge for Voices {
         equal_counts(self.count, other.count)
     }
 
-    fn is_entry(self) -> bool {
+    // The count is asked, and it is in range exactly where the whole number that it means is.
+    fn is_entry(self) -> bool
+        ensures entry { result ≡ voices.entry self }
+        ensures range { result ≡ voices_range (signed (voices.means self)) }
+    {
         LEAST_VOICES <= self.count && self.count <= MOST_VOICES
     }
 }

@@ -1,5 +1,5 @@
 -- Answers as plain numbers, and what a call makes of a strip. Assumes nothing.
-use Rattle.std.specs.Prelude.{ℕ, ◌+◌, List, ◌++◌, length, take, drop, Ok, Err, Result}
+use Rattle.std.specs.Prelude.{List, ◌++◌, length, drop, Ok, Err, Result}
 use Rattle.fault.specs.declared.Fault.{Fault}
 use Rattle.fault.specs.Refusals.{Refusal, refusal}
 
@@ -12,10 +12,6 @@ plainly (Err f) = Err (refusal f)
 abbrev pub and_then : {X Y F : Type 0} → Result X F → (X → Result Y F) → Result Y F
 and_then (Ok x) f = f x
 and_then (Err e) f = Err e
-
--- xs in the place of as many entries of a strip, from an index on
-abbrev pub over : {X : Type 0} → List X → ℕ → List X → List X
-over strip at xs = take at strip ++ (xs ++ drop (at + length xs) strip)
 
 -- xs at the front of a strip, whose other entries stay
 abbrev pub front : {X : Type 0} → List X → List X → List X

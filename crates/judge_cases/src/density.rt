@@ -10,7 +10,7 @@ use std::alloc::{AllocError, Global};
 
 // A density by a table of entries, or by a pattern, as an enum for the same reason as a rule.
 #[derive(Drop)]
-pub enum AnyDensity<'a, C> {
+pub enum AnyDensity<'a, C: Charge> {
     Table(TableDensity<'a, C>),
     Pattern(PatternDensity<C>),
 }

@@ -1,11 +1,10 @@
 -- How a number is spelt and read: groups of seven bits, the highest first, each but the last in a byte with
 -- its top bit set. Assumes nothing.
-use Rattle.std.specs.Prelude.{◌≡◌, ◌↔◌, ℕ, suc, ◌+◌, ◌/◌, ◌%◌, ◌<◌, ◌≤◌, Bool, cond, ◌&&◌, ◌||◌, List, [], ◌∷◌, ◌++◌, map, length, take, drop, Ok, Err, Result, ◌==◌, nat_le, nat_lt, slice_index, slice_index_or}
+use Rattle.std.specs.Prelude.{◌≡◌, ◌↔◌, ℕ, suc, ◌+◌, ◌/◌, ◌%◌, ◌<◌, ◌≤◌, Bool, cond, ◌&&◌, ◌||◌, List, [], ◌∷◌, ◌++◌, map, length, take, drop, Ok, Err, ◌==◌, nat_le, nat_lt, slice_index, slice_index_or}
 use Rattle.std.specs.Int.Digits.{digits_of, number_from_digits}
 use Rattle.std.specs.List.{AllByRecursion}
-use Rattle.fault.specs.declared.Stop.TheVariants.{CutShort, Misspelt, ShortStrip}
-use Rattle.fault.specs.Refusals.{Refusal, refused_at}
-use Rattle.fault.specs.Answers.{and_then, over}
+use Rattle.fault.specs.declared.Stop.TheVariants.{CutShort, Misspelt}
+use Rattle.fault.specs.Refusals.{refused_at}
 use Rattle.preset.specs.Answers.{Answer}
 
 -- the largest number
@@ -84,19 +83,3 @@ abbrev pub NumberSpellsBack : Type 0
 NumberSpellsBack =
     (place : ℕ) (bs : List ℕ) (v : ℕ) (rest : List ℕ)
     → AllByRecursion (λ b. b < 256) bs → number place bs ≡ Ok (v, rest) → (v ≤ number_limit) × (bs ≡ spell v ++ rest)
-
--- Writing a number from an index on: a value over the limit has no spelling, and the strip may be too short.
-abbrev pub spelling : List ℕ → ℕ → ℕ → Result (List ℕ) Refusal
-spelling strip at v =
-    cond (nat_le v number_limit)
-    (cond (nat_le (at + length (spell v)) (length strip)) (Ok (spell v)) (Err (refused_at ShortStrip 0)))
-    (Err (refused_at Misspelt 0))
-
--- the answer is the index after the number
-abbrev pub number_end : List ℕ → ℕ → ℕ → Result ℕ Refusal
-number_end strip at v = and_then (spelling strip at v) (λ bs. Ok (at + length bs))
-
--- what the strip holds afterwards: the number, or what it held
-abbrev pub spelt_over : List ℕ → ℕ → Result (List ℕ) Refusal → List ℕ
-spelt_over strip at (Ok bs) = over strip at bs
-spelt_over strip at (Err f) = strip

@@ -1,17 +1,25 @@
 -- What two strips hold once a preset was read into them. Assumes nothing.
-use Rattle.std.specs.Prelude.{◌≡◌, Result, ⊤}
+use Rattle.std.specs.Prelude.{◌≡◌, ℕ, List, Result, ⊤}
 use Rattle.std.specs.Borrow.{MutBor, Fml, follows_so}
 use mathlib.Core.Option.{none}
 use Rattle.fault.specs.Answers.{strip_after}
 use Rattle.fault.specs.Refusals.{Refusal}
+use Rattle.preset.specs.declared.entry.Entry.{Entry}
 use Rattle.preset.specs.declared.strips.Strips.{Strips}
 use Rattle.preset.specs.contracts.strips.Strips.{the_row}
 use Rattle.preset.specs.Presets.{Preset}
 
+-- the letters and the entries that two strips hold
+abbrev pub letters_of : Strips → List ℕ
+letters_of s = s.letters
+
+abbrev pub entries_of : Strips → List Entry
+entries_of s = s.entries
+
 -- what was read stands at the front of each strip; after a refusal they are as they were
 pub record ReadInto (was : Strips) (answer : Result Preset Refusal) (now : Strips) : Type 0 where
-  pub letters : now.letters ≡ strip_after (λ p. p.letters) was.letters answer
-  pub entries : now.entries ≡ strip_after (λ p. p.entries) was.entries answer
+  pub letters : letters_of now ≡ strip_after (λ p. p.letters) (letters_of was) answer
+  pub entries : entries_of now ≡ strip_after (λ p. p.entries) (entries_of was) answer
 
 -- what is true of lent strips once the loan ends
 abbrev pub EndsAs : MutBor Strips → (Strips → Type 0) → Fml

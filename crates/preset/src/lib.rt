@@ -20,7 +20,7 @@ mod writer;
 pub use entry::Entry;
 pub use header::Header;
 pub use loaded::Loaded;
-pub use number::{MOST_NUMBER, read_number, write_number};
+pub use number::{MOST_NUMBER, read_number};
 pub use reader::{STRIP, read_preset, read_whole};
 pub use sent::Sent;
 pub use strips::Strips;

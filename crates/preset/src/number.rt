@@ -1,8 +1,8 @@
 // Numbers: groups of seven bits, the highest first, each but the last in a byte with its top bit set.
-ghost use Rattle.std.specs.Prelude.{◌≡◌, ◌+◌, ◌<◌, ◌≤◌, length, IfOk, nat_lt};
-ghost use Rattle.fault.specs.Answers.{plainly, front};
+ghost use Rattle.std.specs.Prelude.{◌≡◌, ◌<◌, ◌≤◌, length, IfOk, nat_lt};
+ghost use Rattle.fault.specs.Answers.{front};
 ghost use Rattle.preset.specs.Answers.{seen};
-ghost use Rattle.preset.specs.Numbers.{number as numeral, spell, high_bytes, number_end, spelling, spelt_over, NumberRefusals, NumberReadsBack, NumberSpellsBack};
+ghost use Rattle.preset.specs.Numbers.{number as numeral, spell, high_bytes, NumberRefusals, NumberSpellsBack};
 
 use crate::items::Encode;
 use crate::shape::Shape;
@@ -26,6 +26,7 @@ pub fn read_number(input: &[u8], place: usize) -> Result<(u64, &[u8]), Fault>
     ensures answer { seen result ≡ numeral place input.now }
     ensures rest { IfOk result (λ p. length p.1.now < length input.now) }
     ensures refusals { NumberRefusals }
+    ensures spells_back { NumberSpellsBack }
 {
     if let [0x80, ..] = input {
         return Err(Stop::Misspelt.at(place));
@@ -92,17 +93,4 @@ impl Encode for u64 {
     fn put(self, _shape: Shape, out: &mut [u8]) -> usize {
         put_number(self, out)
     }
-}
-
-// Writes a number from `at` on and answers the index after it. A value over the limit has no spelling.
-#[tactic(auto, using(crate::proofs::NumberLaws::number_reads_back, crate::proofs::NumberLaws::number_spells_back))]
-pub fn write_number(value: u64, out: &mut [u8], at: usize) -> Result<usize, Fault>
-    ensures answer { plainly result ≡ number_end out.old at value }
-    ensures strip { out.new ≡ spelt_over out.old at (spelling out.old at value) }
-    ensures reads_back { NumberReadsBack }
-    ensures spells_back { NumberSpellsBack }
-{
-    Stop::Misspelt.unless(value <= MOST_NUMBER)?;
-    Stop::ShortStrip.unless(at <= out.len() && spelt_len(value) <= out.len() - at)?;
-    Ok(at + put_number(value, &mut out[at..]))
 }

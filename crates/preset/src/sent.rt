@@ -1,6 +1,7 @@
 // Charges of each kind as entries of a preset.
 ghost use Rattle.std.specs.Prelude.{◌≡◌, ◌^◌, if◌then◌else◌, Some, None, nat_lt};
 ghost use Rattle.std.specs.Option.{option_map};
+ghost use Rattle.charge.specs.Kinds.{class_of};
 ghost use Rattle.charge.specs.Ranges.{pitch_end, channel_bits};
 ghost use Rattle.preset.specs.Entries.{fits};
 ghost use Rattle.preset.specs.Sending.{Sending, voices_sending, pitch_sending, channels_sending, both_sending};
@@ -28,7 +29,7 @@ pub trait Sent: Charge {
 
 // The pitch class of a number, if it is one.
 fn pitch_of(plain: u64) -> Option<Pitch>
-    ensures { option_map (λ p. p.class) result
+    ensures { option_map class_of result
         ≡ (if nat_lt plain pitch_end then Some plain else None) }
 {
     Pitch::new(u8::try_from(plain).ok()?)

@@ -21,13 +21,13 @@ impl Strips {
     ghost use Rattle.preset.specs.Loads.{loaded, preset_of};
     ghost use Rattle.preset.specs.Presets.{whole_preset};
     ghost use Rattle.preset.specs.Sound.{Sound};
-    ghost use Rattle.preset.specs.Strips.{EndsAs, ReadInto};
+    ghost use Rattle.preset.specs.Strips.{letters_of, entries_of, EndsAs, ReadInto};
     ghost use Rattle.preset.specs.Writes.{fronts};
 
     // Strips of zeros.
     pub fn new() -> Strips
-        ensures letters { result.letters ≡ replicate most_words 0 }
-        ensures entries { result.entries
+        ensures letters { letters_of result ≡ replicate most_words 0 }
+        ensures entries { entries_of result
             ≡ replicate most_words (record { signed = pos 0; plain = 0 }) }
     {
         Strips {
@@ -50,8 +50,9 @@ impl Strips {
 
     // The preset that was read, by its head.
     fn front(&self, head: Head) -> Loaded<'_>
-        requires { Sound (fronts (head_of head) self.now.letters self.now.entries) }
-        ensures { preset_of result ≡ fronts (head_of head) self.now.letters self.now.entries }
+        requires { Sound (fronts (head_of head) (letters_of self.now) (entries_of self.now)) }
+        ensures { preset_of result
+            ≡ fronts (head_of head) (letters_of self.now) (entries_of self.now) }
     {
         Loaded::front(head, &self.letters, &self.entries)
     }

@@ -6,6 +6,7 @@ ghost use Rattle.fault.specs.Checks.{tested};
 ghost use Rattle.preset.specs.Heads.{head_of, heads};
 ghost use Rattle.preset.specs.Laws.{PresetReadsBack};
 ghost use Rattle.preset.specs.Loads.{loaded, preset_of};
+ghost use Rattle.preset.specs.Numbers.{NumberReadsBack};
 ghost use Rattle.preset.specs.Scans.{Checked};
 ghost use Rattle.preset.specs.Sizes.{Sized};
 ghost use Rattle.preset.specs.Writes.{size_tests, head_checked, header_numbers, contents_checked, checked, preset_bytes, writing, written};
@@ -107,7 +108,7 @@ fn put_preset(preset: &Loaded<'_>, out: &mut [u8]) -> usize
 
 // Writes a preset to the front of the byte strip and answers how many bytes it takes. Of strips that are longer
 // than the header asks, the fronts are written. They are no `Loaded`, since they may be of any header.
-#[tactic(auto, using(crate::proofs::PresetLaws::preset_reads_back))]
+#[tactic(auto, using(crate::proofs::NumberLaws::number_reads_back, crate::proofs::PresetLaws::preset_reads_back))]
 pub fn write_preset(
     header: Header,
     letters: &[u8],
@@ -117,6 +118,7 @@ pub fn write_preset(
     ensures answer { plainly result ≡ written (writing header letters.now entries.now out.old) }
     ensures strip { let written = writing header letters.now entries.now out.old in
         out.new ≡ strip_after (λ bytes. bytes) out.old written }
+    ensures number_reads_back { NumberReadsBack }
     ensures reads_back { PresetReadsBack }
 {
     let preset = load(header, letters, entries)?;

@@ -14,13 +14,13 @@ invariant_of-ring g c =
     let t = taken-letters w.q w.m c.args.word.now _ (sym c.in_ok-letters.ensures) in
     record { few = sizes.1; some = omega (arith, sizes.2, t.0); most = omega (arith, sizes.3, t.0); letters = t.1 }
 
-pub invariant_of-self : goal.invariant_of-self
-invariant_of-self g c =
+pub invariant_of-self-clause-within : goal.invariant_of-self-clause-within
+invariant_of-self-clause-within g c =
     let w = c.in_ok-words.words in
     let counted = w.counted in
     let t = taken-letters w.q w.m c.args.word.now _ (sym c.in_ok-letters.ensures) in
     let e = c.code_from-pattern.ensures ∙ ap (code w.q) (window-whole w.m _ t.0) in
-    record { within = omega (arith, e, code_lt w.q w.m _ t, counted) }
+    omega (arith, e, code_lt w.q w.m _ t, counted)
 
 pub returns-clause-density : goal.returns-clause-density
 returns-clause-density g c =
