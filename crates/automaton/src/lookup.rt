@@ -23,7 +23,7 @@ impl<'a> Table<'a> {
     ghost use Rattle.automaton.specs.Meant.{looked_up};
 
     // The table of two letters and a window of one cell that has no letters: wherever answers are looked up, they are 0.
-    pub fn zero() -> Table<'a>
+    pub(crate) fn zero() -> Table<'a>
         ensures { (place : ℕ → ℕ → ℕ → ℕ) → looked_up place result ≡ zero_rule }
     {
         Table {
@@ -34,7 +34,7 @@ impl<'a> Table<'a> {
     }
 
     // The first `places` letters of a strip: a rule that looks up only these is the rule of the whole strip.
-    pub fn of(words: Words, l: u64, places: usize, letters: &'a [u8]) -> Result<Table<'a>, Fault>
+    pub(crate) fn of(words: Words, l: u64, places: usize, letters: &'a [u8]) -> Result<Table<'a>, Fault>
         requires { l < words.m }
         ensures answer { let taking = taken (λ a. nat_lt a words.q) BadLetter places letters.now in
             MatchResult result (λ t. taking ≡ Ok t.letters.now) (λ f. taking ≡ Err (refusal f)) }
@@ -51,7 +51,7 @@ impl<'a> Table<'a> {
     }
 
     // The letter at the place of a code, and 0 past the last code.
-    pub fn answer(self, code: usize, place: usize) -> u8
+    pub(crate) fn answer(self, code: usize, place: usize) -> u8
         ensures { (place_of : ℕ → ℕ → ℕ → ℕ) →
             place ≡ place_of self.entry.words.q self.entry.words.m code →
             result ≡ slice_index (looked_up place_of self.entry).answers code }

@@ -1,5 +1,5 @@
 -- What the states of a bench show. Assumes nothing.
-use Rattle.std.specs.Prelude.{◌≡◌, Ok, Err, Result}
+use Rattle.std.specs.Prelude.{◌≡◌, ℕ, List, Ok, Err, Result}
 use Rattle.charge.specs.declared.Charge.{Ghosts as ChargeOf}
 use Rattle.automaton.specs.declared.rule.Rule.{Ghosts as RuleOf}
 use Rattle.automaton.specs.declared.density.Density.{Ghosts as DensityOf}
@@ -10,8 +10,13 @@ use Rattle.bench.specs.declared.state.Breaking.{Breaking}
 use Rattle.bench.specs.declared.state.Refused.{Refused}
 use Rattle.bench.specs.declared.state.Verdict.{Verdict}
 use Rattle.bench.specs.declared.holding.SiteCrossings.{SiteCrossings}
+use Rattle.bench.specs.declared.next_words.NextWords.{NextWords}
 use Rattle.bench.specs.Answers.{verdict_parts}
 use Rattle.bench.specs.Benches.{Bench}
+
+-- the codes that stand in the room for next letters
+abbrev pub codes_in : NextWords → List ℕ
+codes_in room = room.codes
 
 module _ {C R D : Type 0} {c : ChargeOf C} {r : RuleOf R} {d : DensityOf D C} where
   -- the bench that a draft, a holding bench and the crossings on one are of

@@ -24,7 +24,8 @@ impl<C: Charge, R: Rule, D: Density<C>> Holding<C, R, D> {
         &self.parts.density
     }
 
-    // The m - 1 cells that a crossing is taken from.
+    // The m - 1 cells that a crossing is taken from. The clause names the sizes that the bench keeps, as a function of the
+    // crate alone may.
     fn crossing_span(&self) -> Span
         ensures { (result.before ≡ self.now.sizes.l)
             × (result.width ≡ self.now.sizes.n + self.now.sizes.k - 2) }

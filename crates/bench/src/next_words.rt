@@ -1,4 +1,5 @@
-// The next letters of words, by codes.
+// The next letters of words, by codes. The clauses of the crate's own functions here name the fields of `RuleSizes`, which
+// are the crate's own as well: they are about these very numbers.
 ghost use Rattle.std.specs.Prelude.{◌≡◌, ◌+◌, ◌-◌, ◌/◌, ◌%◌, ◌^◌, ◌<◌, ◌*◌, max, length, replicate, slice_index};
 ghost use Rattle.fault.specs.Limits.{most_words};
 ghost use Rattle.bench.specs.Sized.{sized_rule, next_word, KnowsNext};
@@ -15,8 +16,10 @@ pub struct NextWords {
 }
 
 impl NextWords {
+    ghost use Rattle.bench.specs.States.{codes_in};
+
     pub fn new() -> NextWords
-        ensures { result.codes ≡ replicate most_words 0 }
+        ensures { codes_in result ≡ replicate most_words 0 }
     {
         NextWords {
             codes: [0; MOST_WORDS as usize],

@@ -1,4 +1,5 @@
-// Parts of words, by their codes.
+// Parts of words, by their codes. The clauses name the fields of `Part`: both are the crate's own, and a part is these two
+// numbers.
 ghost use Rattle.std.specs.Prelude.{◌≡◌, ◌+◌, ◌/◌, ◌%◌, ◌^◌, ◌≤◌};
 
 use automaton::Words;

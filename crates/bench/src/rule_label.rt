@@ -45,7 +45,8 @@ impl<C: Charge, R: Rule, D: Density<C>> Label<C> for RuleLabel<'_, R, D> {
 }
 
 impl<R: Rule, D> RuleLabel<'_, R, D> {
-    // The code of the next letters of the word of a code, if there is one. One test is enough where they are known.
+    // The code of the next letters of the word of a code, if there is one. One test is enough where they are known. The
+    // clause names what the label keeps, since the function is the crate's own.
     fn next_word(&self, code: usize) -> Option<usize>
         ensures { let sizes = self.now.sizes in
             let next_of = next_word sizes (R.meaning self.now.parts.now.rule) in

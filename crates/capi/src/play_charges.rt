@@ -5,7 +5,7 @@ ghost use Rattle.criterion.specs.Search.{most_shown};
 ghost use Rattle.bench.specs.Answers.{break_of};
 ghost use Rattle.bench.specs.States.{draft_bench, verdict_bench};
 ghost use Rattle.bench.specs.Verdicts.{judge_found};
-ghost use Rattle.player.specs.Answers.{strips};
+ghost use Rattle.player.specs.Promises.{all_strips, meant};
 ghost use Rattle.player.specs.Whole.{with_answers};
 ghost use Rattle.preset_bench.specs.Finds.{preset_bench, preset_found};
 ghost use Rattle.capi.specs.Scripts.{script_call};
@@ -37,7 +37,7 @@ fn play_judged<C: Sent, R: Rule + Drop, D: Density<C> + Drop>(
     ensures found { result ≡ break_of verdict }
     ensures answered { let b = verdict_bench verdict in
         AnsweredIf C.kind C.sending b.rule b.density
-        (strips C.kind cells.old spare.old opening.old crossed.old touched.old)
+        (meant C.kind (all_strips cells.old spare.old opening.old crossed.old touched.old))
         (map (script_call rings.now) script.now) result cells.new answers.old answers.new }
 {
     match verdict {
@@ -68,7 +68,7 @@ fn play_draft<C: Sent, R: Rule + Drop, D: Density<C> + Drop>(
     requires { length script.now ≤ length answers.old }
     ensures { let b = draft_bench draft in
         PlayFinds C.kind C.sending b.rule b.density
-        (strips C.kind cells.old spare.old opening.old crossed.old touched.old)
+        (meant C.kind (all_strips cells.old spare.old opening.old crossed.old touched.old))
         (map (script_call rings.now) script.now)
         (judge_found b (length crossings.old) (length ring.old))
         cells.new answers.old answers.new result }
@@ -98,7 +98,7 @@ fn play_tables<C: Sent>(
         let b = preset_bench C.kind h letters charges.now in
         let found = preset_found C.kind (length crossings.old) most_shown h letters charges.now in
         PlayFinds C.kind C.sending b.rule b.density
-        (strips C.kind cells.old spare.old opening.old crossed.old touched.old)
+        (meant C.kind (all_strips cells.old spare.old opening.old crossed.old touched.old))
         (map (script_call rings.now) script.now)
         (with_answers (length script.now) (length answers.old) found)
         cells.new answers.old answers.new result }
@@ -133,7 +133,7 @@ pub(crate) fn play_charges<C: Sent>(
     ensures { let p = preset.entry in
         PlayedOn C.kind C.sending p.header p.letters.now p.entries.now
         (map (script_call rings.now) script.now) cells.new answers.old answers.new
-        (strips C.kind cells.old spare.old opening.old crossed.old touched.old) result }
+        (meant C.kind (all_strips cells.old spare.old opening.old crossed.old touched.old)) result }
 {
     let Ok(()) = fill_charges(preset.entries, charges) else {
         unreachable!()

@@ -2,8 +2,8 @@
 ghost use Rattle.std.specs.Prelude.{◌≡◌, ◌≤◌, map, length};
 ghost use Rattle.std.specs.Option.{option_map};
 ghost use Rattle.bench.specs.States.{holding_bench};
-ghost use Rattle.player.specs.Answers.{strips, answered, open_cells};
-ghost use Rattle.player.specs.Promises.{player_ring, player_holding, ring_len};
+ghost use Rattle.player.specs.Answers.{answered, open_cells};
+ghost use Rattle.player.specs.Promises.{all_strips, meant, player_ring, player_holding, ring_len};
 ghost use Rattle.fault.specs.Refusals.{refusal};
 ghost use Rattle.capi.specs.Scripts.{asks, script_call, refused_open, Obeys};
 ghost use Rattle.capi.specs.Playing.{Answered};
@@ -43,9 +43,9 @@ fn answer_one<C: Charge, R: Rule, D: Density<C>>(
 ) -> (PlayerOf<C, R, D>, Option<Answer<C>>)
     ensures obeys { let ring = player_ring player in
         Obeys C.kind ring.bench.rule ring.bench.density ring.len
-        (strips C.kind cells.old spare.old opening.old crossed.old touched.old)
+        (meant C.kind (all_strips cells.old spare.old opening.old crossed.old touched.old))
         (asks asked.entry) (option_map (answered C.kind) result.1)
-        (strips C.kind cells.new spare.new opening.new crossed.new touched.new)
+        (meant C.kind (all_strips cells.new spare.new opening.new crossed.new touched.new))
         (open_cells ring_len result.0) }
     ensures bench { player_holding result.0 ≡ player_holding player }
 {
@@ -74,7 +74,7 @@ pub(crate) fn play_script<C: Sent, R: Rule + Drop, D: Density<C> + Drop>(
     requires { length script.now ≤ length answers.old }
     ensures { let b = holding_bench bench in
         Answered C.kind C.sending b.rule b.density
-        (strips C.kind cells.old spare.old opening.old crossed.old touched.old)
+        (meant C.kind (all_strips cells.old spare.old opening.old crossed.old touched.old))
         (map (script_call rings.now) script.now) cells.new answers.old answers.new }
 {
     let mut player = Player::Idle(bench);

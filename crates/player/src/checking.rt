@@ -12,7 +12,7 @@ use charge::Charge;
 use fault::Fault;
 
 impl<C: Charge, R: Rule, D: Density<C>> Playing<C, R, D> {
-    ghost use Rattle.player.specs.Promises.{open_ring};
+    ghost use Rattle.player.specs.Promises.{open_ring, ring_len, holding_under};
 
     // The alphabet size.
     pub(crate) fn q(&self) -> usize
@@ -23,7 +23,7 @@ impl<C: Charge, R: Rule, D: Density<C>> Playing<C, R, D> {
 
     // The refusal of the first cell that has no letter.
     pub(crate) fn check_letters(&self, cells: &[u8]) -> Result<(), Fault>
-        requires { self.now.len ≤ length cells.now }
+        requires { ring_len self.now ≤ length cells.now }
         ensures { let ring = open_ring self.now in
             plainly result
             ≡ each_fits (λ a. nat_lt a ring.bench.rule.q) BadLetter 0 (take ring.len cells.now) }
@@ -34,11 +34,11 @@ impl<C: Charge, R: Rule, D: Density<C>> Playing<C, R, D> {
 
     // The sites of the ring in these cells.
     pub(crate) fn sites<'b, 'r>(&'b self, cells: &'r [u8]) -> Sites<'b, 'r, C, R, D>
-        requires room { self.now.len ≤ length cells.now }
+        requires room { ring_len self.now ≤ length cells.now }
         requires letters { let ring = open_ring self.now in
             Letters ring.bench.rule.q (take ring.len cells.now) }
-        ensures bench { result.bench.now ≡ self.now.bench }
-        ensures ring { result.ring.cells.now ≡ take self.now.len cells.now }
+        ensures bench { result.bench.now ≡ holding_under self.now }
+        ensures ring { result.ring.cells.now ≡ take (ring_len self.now) cells.now }
     {
         Sites {
             bench: &self.bench,

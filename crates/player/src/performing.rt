@@ -6,8 +6,8 @@ ghost use Rattle.bench.specs.Verdicts.{lent};
 ghost use Rattle.player.specs.Laws.{RefusalsFit, StepsOn};
 ghost use Rattle.player.specs.Logs.{longest_opened, LogsTrue};
 ghost use Rattle.player.specs.Obeying.{played_on, front_of_all, StaysPast};
-ghost use Rattle.player.specs.Answers.{strips, asked, answers_to};
-ghost use Rattle.player.specs.Promises.{all_strips, ring_len, HandsOnPlayer};
+ghost use Rattle.player.specs.Answers.{asked, answers_to};
+ghost use Rattle.player.specs.Promises.{all_strips, meant, ring_len, HandsOnPlayer};
 ghost use Rattle.player.specs.Whole.{JudgedFor, VerdictTrue, CrossingsTrue, Plays, ScriptTrue, cells_open, UnlessHolds};
 
 use crate::call::{Answer, Call};
@@ -49,8 +49,8 @@ fn perform_on<C: Charge, R: Rule, D: Density<C>>(
         (all_strips cells.old spare.old opening.old crossed.old touched.old)
         (all_strips cells.new spare.new opening.new crossed.new touched.new) }
     ensures script { Plays (draft_bench draft) (judge_said C.kind result) (map asked script.now)
-        (strips C.kind cells.old spare.old opening.old crossed.old touched.old)
-        (strips C.kind cells.new spare.new opening.new crossed.new touched.new)
+        (meant C.kind (all_strips cells.old spare.old opening.old crossed.old touched.old))
+        (meant C.kind (all_strips cells.new spare.new opening.new crossed.new touched.new))
         (answers_to C.kind script.now answers.new) (cells_open ring_len result) }
 {
     if answers.len() < script.len() {
@@ -105,8 +105,8 @@ pub fn perform<C: Charge, R: Rule, D: Density<C>>(
     ensures logs { LogsTrue C.kind }
     ensures script { ScriptTrue (draft_bench draft) (judge_said C.kind result)
         (map asked script.now)
-        (strips C.kind cells.old spare.old opening.old crossed.old touched.old)
-        (strips C.kind cells.new spare.new opening.new crossed.new touched.new)
+        (meant C.kind (all_strips cells.old spare.old opening.old crossed.old touched.old))
+        (meant C.kind (all_strips cells.new spare.new opening.new crossed.new touched.new))
         (answers_to C.kind script.now answers.new) (cells_open ring_len result) }
     ensures laws { RefusalsFit C.kind × StepsOn C.kind }
 {

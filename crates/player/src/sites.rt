@@ -1,6 +1,7 @@
 // The charges that a player writes and books, one a site.
 ghost use Rattle.std.specs.Prelude.{◌≡◌, ℕ};
 ghost use Rattle.charge.specs.Groups.{Kind};
+ghost use Rattle.bench.specs.States.{holding_bench, sites_bench};
 
 use automaton::{Density, Ring, Rule};
 use bench::{Holding, SiteCrossings};
@@ -31,7 +32,7 @@ impl<C: Charge> SiteCharges<C> for NoCharges {
 pub(crate) struct Sites<'b, 'r, C: Charge, R: Rule, D: Density<C>> {
     pub bench: &'b Holding<C, R, D>,
     pub ring: Ring<'r>,
-    pub ghost alphabet: { ring.q ≡ (R.meaning bench.now.parts.rule).q },
+    pub ghost alphabet: { ring.q ≡ (holding_bench bench.now).rule.q },
 }
 
 impl<C: Charge, R: Rule, D: Density<C>> Sites<'_, '_, C, R, D> {
@@ -82,7 +83,7 @@ impl<C: Charge, R: Rule, D: Density<C>> SiteCharges<C> for Opposites<'_, Sites<'
 pub(crate) struct Crossings<'b, 'r, C: Charge, R: Rule, D: Density<C>> {
     pub crossings: SiteCrossings<'b, C, R, D>,
     pub ring: Ring<'r>,
-    pub ghost alphabet: { ring.q ≡ (R.meaning crossings.bench.now.parts.rule).q },
+    pub ghost alphabet: { ring.q ≡ (sites_bench crossings).rule.q },
 }
 
 impl<C: Charge, R: Rule, D: Density<C>> SiteCharges<C> for Crossings<'_, '_, C, R, D> {

@@ -5,7 +5,7 @@ ghost use Rattle.automaton.specs.Making.{ring_checked};
 ghost use Rattle.automaton.specs.Meanings.{next};
 ghost use Rattle.player.specs.Calls.Call.{steps};
 ghost use Rattle.player.specs.Answers.{done_said, Stays};
-ghost use Rattle.player.specs.Promises.{open_ring, step_strips, tested_by, site_crossings, Books, DoesOn};
+ghost use Rattle.player.specs.Promises.{open_ring, ring_len, step_strips, tested_by, site_crossings, Books, DoesOn};
 
 use crate::ledger::book_front;
 use crate::playing::Playing;
@@ -28,14 +28,15 @@ impl<C: Charge, R: Rule, D: Density<C>> Playing<C, R, D> {
 
     // Keeps the cells in the spare strip, and writes the next letters.
     fn advance(&self, cells: &mut [u8], spare: &mut [u8]) -> Result<(), Fault>
-        requires room { (self.now.len ≤ length cells.old) × (self.now.len ≤ length spare.old) }
+        requires room { (ring_len self.now ≤ length cells.old)
+            × (ring_len self.now ≤ length spare.old) }
         requires ring { let ring = open_ring self.now in
             let old = take ring.len cells.old in
             ring_checked ring.bench.rule.q (length cells.old) old ≡ Ok old }
         ensures answer { plainly result ≡ Ok tt }
         ensures cells { let ring = open_ring self.now in
             cells.new ≡ front (next ring.bench.rule (take ring.len cells.old)) cells.old }
-        ensures spare { spare.new ≡ front (take self.now.len cells.old) spare.old }
+        ensures spare { spare.new ≡ front (take (ring_len self.now) cells.old) spare.old }
     {
         let spare = &mut spare[..self.len];
         spare.copy_from_slice(&cells[..self.len]);
@@ -49,7 +50,7 @@ impl<C: Charge, R: Rule, D: Density<C>> Playing<C, R, D> {
         ensures answer { plainly result ≡ Ok tt }
         ensures cells { let ring = open_ring self.now in
             cells.new ≡ front (next ring.bench.rule (take ring.len cells.old)) cells.old }
-        ensures spare { spare.new ≡ front (take self.now.len cells.old) spare.old }
+        ensures spare { spare.new ≡ front (take (ring_len self.now) cells.old) spare.old }
         ensures crossed { let ring = open_ring self.now in
             let flows = site_crossings ring.bench (take ring.len cells.old) in
             Books C.kind ring.len flows crossed.old crossed.new }

@@ -6,7 +6,7 @@ ghost use Rattle.fault.specs.Refusals.{refused_at};
 ghost use Rattle.player.specs.Calls.Call.{touches};
 ghost use Rattle.player.specs.Near.{up_to};
 ghost use Rattle.player.specs.Answers.{done_said, Stays};
-ghost use Rattle.player.specs.Promises.{open_ring, sites_ring, touch_strips, touch_gain, tested_by, site_charges, site_opposites, Books, DoesOn};
+ghost use Rattle.player.specs.Promises.{open_ring, ring_len, sites_ring, touch_strips, touch_gain, tested_by, site_charges, site_opposites, Books, DoesOn};
 
 use crate::ledger::book_front_back;
 use crate::playing::Playing;
@@ -61,7 +61,7 @@ impl<C: Charge, R: Rule, D: Density<C>> Playing<C, R, D> {
     fn check_letter(&self, letter: u8) -> Result<(), Fault>
         ensures { plainly result
             ≡ (if nat_lt letter (open_ring self.now).bench.rule.q
-            then Ok tt else Err (refused_at BadLetter self.now.len)) }
+            then Ok tt else Err (refused_at BadLetter (ring_len self.now))) }
     {
         if (letter as usize) < self.q() {
             Ok(())
