@@ -52,6 +52,6 @@ TablesInRange = (t : TableDensity Voices in_voices) → InRange (table_meant voi
 abbrev pub PatternsInRange : Type 0
 PatternsInRange = (t : PatternDensity Voices in_voices) → InRange (pattern_meant voices t)
 
--- a ring is of these cells, which are letters below q
+-- a ring is of these cells; its type says that they are letters below q
 abbrev pub RingOf : ℕ → List ℕ → Ring → Type 0
 RingOf q cells r = (r.q ≡ q) × (r.cells.now ≡ cells)

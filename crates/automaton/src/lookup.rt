@@ -34,7 +34,12 @@ impl<'a> Table<'a> {
     }
 
     // The first `places` letters of a strip: a rule that looks up only these is the rule of the whole strip.
-    pub(crate) fn of(words: Words, l: u64, places: usize, letters: &'a [u8]) -> Result<Table<'a>, Fault>
+    pub(crate) fn of(
+        words: Words,
+        l: u64,
+        places: usize,
+        letters: &'a [u8],
+    ) -> Result<Table<'a>, Fault>
         requires { l < words.m }
         ensures answer { let taking = taken (λ a. nat_lt a words.q) BadLetter places letters.now in
             MatchResult result (λ t. taking ≡ Ok t.letters.now) (λ f. taking ≡ Err (refusal f)) }

@@ -61,10 +61,10 @@ impl<C: Charge> Test<C> for Entries {
 
 // The words of a rule's window, which is longer than the reach.
 pub(crate) fn check_rule(q: u64, n: u64, l: u64) -> Result<Words, Fault>
-    ensures { let count = and_then (tested (rule_tests q n l)) (λ _. counted q n) in
+    ensures { let counting = and_then (tested (rule_tests q n l)) (λ _. counted q n) in
         MatchResult result
-        (λ w. (count ≡ Ok w.count) × (w.q ≡ q) × (w.m ≡ n) × (l < n))
-        (λ f. count ≡ Err (refusal f)) }
+        (λ w. (counting ≡ Ok w.count) × (w.q ≡ q) × (w.m ≡ n) × (l < n))
+        (λ f. counting ≡ Err (refusal f)) }
 {
     Stop::BadAlphabet.unless(LEAST_LETTERS <= q && q <= MOST_LETTERS)?;
     Stop::BadWindow.unless(1 <= n && n <= MOST_WINDOW)?;
@@ -74,10 +74,10 @@ pub(crate) fn check_rule(q: u64, n: u64, l: u64) -> Result<Words, Fault>
 
 // The words of a density's width.
 pub(crate) fn check_density(q: u64, k: u64) -> Result<Words, Fault>
-    ensures { let count = and_then (tested (density_tests q k)) (λ _. counted q k) in
+    ensures { let counting = and_then (tested (density_tests q k)) (λ _. counted q k) in
         MatchResult result
-        (λ w. (count ≡ Ok w.count) × (w.q ≡ q) × (w.m ≡ k))
-        (λ f. count ≡ Err (refusal f)) }
+        (λ w. (counting ≡ Ok w.count) × (w.q ≡ q) × (w.m ≡ k))
+        (λ f. counting ≡ Err (refusal f)) }
 {
     Stop::BadAlphabet.unless(LEAST_LETTERS <= q && q <= MOST_LETTERS)?;
     Stop::BadWidth.unless(1 <= k && k <= MOST_WIDTH)?;

@@ -15,8 +15,8 @@ use Rattle.bench.specs.Verdicts.{Lent, judge_found, judging, JudgeLeaves, compar
 use Rattle.bench.specs.Unbounded.{VerdictUnbounded, ComparisonUnbounded}
 
 -- Judging a bench: what is answered, and what is left on the strips, by the strips before. Only a strip too short is
--- refused. The verdict is right of rings of every length, and on voices of whole numbers without bounds: so are then the
--- ring that is shown, its totals and the crossings.
+-- refused. The verdict is right of rings of every length. On voices with entries in range it is right of whole numbers
+-- without bounds, and so are the ring that is shown, its totals and the crossings.
 pub record Judges {C H B S : Type 0} {K : Kind C} (b : Bench K) (old : Lent C) (result : Result (Verdict C H B) (Refused S)) (new : Lent C) : Type 0 where
   pub answer : judge_said K result ≡ judging b (length old.crossings) (length old.ring)
   pub refused : IsOkUnless (judge_said K result) (refused_at ShortStrip 0)

@@ -40,22 +40,28 @@ module _ {C R D : Type 0} {c : ChargeOf C} {r : RuleOf R} {d : DensityOf D C} wh
   abbrev pub density_of : Holding C R D c r d → D
   density_of b = b.parts.density
 
-  -- those of a draft and of a verdict together, and the bench that a verdict is of
+  -- the two together, of a bench in each state and of a verdict, and the bench that a verdict is of
   abbrev pub draft_parts : Draft C R D c r d → Parts R D
   draft_parts b = b.parts
 
+  abbrev pub holding_parts : Holding C R D c r d → Parts R D
+  holding_parts b = b.parts
+
+  abbrev pub breaking_parts : Breaking C R D c r d → Parts R D
+  breaking_parts b = b.parts
+
   abbrev pub judged_parts : Verdict C (Holding C R D c r d) (Breaking C R D c r d) → Parts R D
-  judged_parts v = verdict_parts (λ h. h.parts) (λ b. b.parts) v
+  judged_parts v = verdict_parts holding_parts breaking_parts v
 
   abbrev pub verdict_bench : Verdict C (Holding C R D c r d) (Breaking C R D c r d) → Bench c.kind
   verdict_bench v = let parts = judged_parts v in record { rule = r.meaning parts.rule; density = d.weights c.kind parts.density }
 
   -- a draft has the rule and the density that were handed in, and a refusal hands them back
   abbrev pub HandsIn : R → D → Result (Draft C R D c r d) (Refused (Parts R D)) → Type 0
-  HandsIn rule density (Ok b) = b.parts ≡ record { rule = rule; density = density }
+  HandsIn rule density (Ok b) = draft_parts b ≡ record { rule = rule; density = density }
   HandsIn rule density (Err e) = e.state ≡ record { rule = rule; density = density }
 
   -- a verdict hands on the rule and the density of a draft, and a refusal the draft as it is
   abbrev pub HandsOn : Draft C R D c r d → Result (Verdict C (Holding C R D c r d) (Breaking C R D c r d)) (Refused (Draft C R D c r d)) → Type 0
-  HandsOn draft (Ok verdict) = judged_parts verdict ≡ draft.parts
+  HandsOn draft (Ok verdict) = judged_parts verdict ≡ draft_parts draft
   HandsOn draft (Err e) = e.state ≡ draft

@@ -98,7 +98,7 @@ pub record Lent (C : Type 0) : Type 0 where
   pub ring : List ℕ
 
 abbrev pub lent : {C : Type 0} → List C → List ℕ → Lent C
-lent crossings ring = record { crossings = crossings; ring = ring }
+lent charges cells = record { crossings = charges; ring = cells }
 
 -- what is left on the strips: the crossings and the ring that are written, each at the front of its strip, and none where
 -- the call is refused

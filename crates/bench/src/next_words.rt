@@ -57,10 +57,10 @@ impl<R: Rule, D> Parts<R, D> {
     // the last next letters of `head`.
     fn extend(&self, sizes: RuleSizes, head: usize, strip: &mut [u16])
         requires rule { sized_rule sizes (R.meaning self.now.rule) ≡ R.meaning self.now.rule }
-        requires word { (length strip.old
-            ≡ sizes.words.count) × (head * sizes.words.q < length strip.old) }
-        requires known { KnowsNext sizes (R.meaning self.now.rule) (max 1
-            (head * sizes.words.q)) strip.old }
+        requires word { (length strip.old ≡ sizes.words.count)
+            × (head * sizes.words.q < length strip.old) }
+        requires known { KnowsNext sizes (R.meaning self.now.rule)
+            (max 1 (head * sizes.words.q)) strip.old }
         ensures len { length strip.new ≡ length strip.old }
         ensures known { KnowsNext sizes (R.meaning self.now.rule)
             ((head + 1) * sizes.words.q) strip.new }

@@ -19,7 +19,7 @@ use Rattle.player.specs.Logs.Log.{made}
 use Rattle.player.specs.Scripts.{Played, said_to, left_by, cells_after, played_more}
 use Rattle.capi.specs.declared.script.ScriptCall.{ScriptCall}
 
--- what a struct asks: a call of the player's, nothing, or an open that has no ring to hand over, and is refused
+-- what a struct asks: a call of the player's, nothing, or an open that has no ring to hand over, by its refusal
 abbrev pub Asking : Type 0
 Asking = Result (Option Call) Refusal
 

@@ -210,7 +210,10 @@ fn patterns_10_and_11_differ(rt: HostRuntime) {
     let mut crossings = [voices(77); 2];
     let mut ring = [9u8; 3];
     let found = compared([1, 0], [1, 1], &mut crossings, &mut ring);
-    assert_eq!(rt; found.map(|found| found.found().map(place)), Ok(Some((0b10, 3))));
+    assert_eq!(rt;
+        found.map(|found| found.found().map(place)),
+        Ok(Some((0b10, 3)))
+    );
     assert_eq!(rt; ring, [1, 0, 0]);
 }
 

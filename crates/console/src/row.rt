@@ -25,11 +25,11 @@ pub(crate) struct Row<'a, T> {
 impl<'a, T: Copy> Row<'a, T> {
     // The row with what its value stands for, where that is something.
     fn with<U>(self, value: Option<U>, expected: Expected) -> Result<Row<'a, U>, TextError>
-        ensures { let row = self.entry in
+        ensures { let was = self.entry in
             result
             ≡ ok_or
-            (option_map (λ v. record { value = v; line = row.line; after = row.after }) value)
-            (Wrong row.line expected) }
+            (option_map (λ v. record { value = v; line = was.line; after = was.after }) value)
+            (Wrong was.line expected) }
     {
         let value = value.ok_or(TextError::Wrong {
             line: self.line,

@@ -14,7 +14,7 @@ use Rattle.player.specs.Calls.Call.{opens, touches, steps, reads, closes}
 use Rattle.player.specs.Calls.Answer.{done, reading, refused}
 use Rattle.player.specs.Logs.{Log, allowed, accepted, standing, ring_opened, longest_opened}
 use Rattle.player.specs.Logs.Log.{◌then◌}
-use Rattle.player.specs.Obeying.{Written, front_of_all, written_by, written, StaysPast}
+use Rattle.player.specs.Obeying.{Written, front_of_all, written_by, written_after, StaysPast}
 use Rattle.player.specs.Scripts.{Played, got, said_to, logged, still_open, cells_after, played_more, played}
 use Rattle.player.proofs.Scripts.{cells_stand}
 
@@ -52,7 +52,7 @@ nothing-within m = (omega arith, omega arith, omega arith)
 module _ {C : Type 0} (K : Kind C) (r : Local) (d : Weights K.group.Carrier) where
   -- the answer that a call was given, and the log with it
   written-within : (log : Log K.group.Carrier) (call : Call) (s : Strips K.group.Carrier) (L : ℕ) → L ≤ longest_opened log → (answer : Option (Answered C)) →
-      option_map (answered K) answer ≡ said_to K r d L call s → Within (written answer call L) (longest_opened (logged K r d L call s log))
+      option_map (answered K) answer ≡ said_to K r d L call s → Within (written_after answer call L) (longest_opened (logged K r d L call s log))
   written-within log call s L h None e = nothing-within _
   written-within log call s L h (Some (Refused_by f)) e = nothing-within _
   written-within log call s L h (Some Done) e = go (allowed call L) e
@@ -105,29 +105,29 @@ module _ {C : Type 0} (K : Kind C) (r : Local) (d : Weights K.group.Carrier) whe
   pub stayed_more : (s : Strips K.group.Carrier) (script : List Call) (call : Call) (answer : Option (Answered C)) (old mid new : Strips C) →
       let p = played K r d s script in
       Stayed p old mid → option_map (answered K) answer ≡ said_to K r d (length (standing p.log).cells) call p.strips →
-      StaysPast (written answer call (length (standing p.log).cells)) mid new → Stayed (played_more K r d p call) old new
+      StaysPast (written_after answer call (length (standing p.log).cells)) mid new → Stayed (played_more K r d p call) old new
   stayed_more s script call answer old mid new stayed said more =
       let p = played K r d s script in
       let L : ℕ = length (standing p.log).cells in
       let m : ℕ = longest_opened (logged K r d L call p.strips p.log) in
       record {
-        past = stays-more (longest_opened p.log) m (written answer call L) old mid new (longer p.log call p.strips L) (written-within p.log call p.strips L stayed.standing_within answer said) stayed.past more;
+        past = stays-more (longest_opened p.log) m (written_after answer call L) old mid new (longer p.log call p.strips L) (written-within p.log call p.strips L stayed.standing_within answer said) stayed.past more;
         standing_within = subst (λ n. n ≤ m) (cells_stand K r d s script call) (cells-within p.log call p.strips L stayed.standing_within);
       }
 
 -- what an accepted or refused call leaves of one strip of charges
 module _ {C : Type 0} where
   pub touch-stays : (told : Result (Unit {0}) Fault) (L i a : ℕ) (old new : Strips C) → new.opening ≡ old.opening → new.crossed ≡ old.crossed →
-      Stays told L old.touched new.touched → StaysPast (written {C = C} (Some (done_answer told)) (touches i a) L) old new
+      Stays told L old.touched new.touched → StaysPast (written_after {C = C} (Some (done_answer told)) (touches i a) L) old new
   touch-stays (Ok t) L i a old new o c s = (o, c, s)
   touch-stays (Err f) L i a old new o c s = (o, c, s)
 
   pub step-stays : (told : Result (Unit {0}) Fault) (L : ℕ) (old new : Strips C) → new.opening ≡ old.opening → new.touched ≡ old.touched →
-      Stays told L old.crossed new.crossed → StaysPast (written {C = C} (Some (done_answer told)) steps L) old new
+      Stays told L old.crossed new.crossed → StaysPast (written_after {C = C} (Some (done_answer told)) steps L) old new
   step-stays (Ok t) L old new o u s = (o, s, u)
   step-stays (Err f) L old new o u s = (o, s, u)
 
   pub read-stays : (told : Result (Reading C) Fault) (L i : ℕ) (old new : Strips C) → (new.opening ≡ old.opening) × (new.crossed ≡ old.crossed) × (new.touched ≡ old.touched) →
-      StaysPast (written (Some (read_answer told)) (reads i) L) old new
+      StaysPast (written_after (Some (read_answer told)) (reads i) L) old new
   read-stays (Ok m) L i old new same = same
   read-stays (Err f) L i old new same = same

@@ -20,7 +20,7 @@ module _ {C : Type 0} {K : Kind C} (ring : OpenRing K) (call : Call) (s : Strips
   abbrev pub cells_on : ℕ
   cells_on = cells_after K ring.bench.rule ring.bench.density ring.len call (meant K s)
 
--- how many charges at the front of the strips for opening, crossed and touched are written
+-- how many charges at the front of the strips for opening, crossed and touched are written, and the same of all three
 pub record Written : Type 0 where
   pub opening : ℕ
   pub crossed : ℕ
@@ -39,11 +39,11 @@ written_by (reads i) L = front_of_all 0
 written_by closes L = front_of_all 0
 
 -- a call that has no answer or is refused writes none
-abbrev pub written : {C : Type 0} → Option (Answered C) → Call → ℕ → Written
-written None call L = front_of_all 0
-written (Some (Refused_by f)) call L = front_of_all 0
-written (Some Done) call L = written_by call L
-written (Some (Read_as m)) call L = written_by call L
+abbrev pub written_after : {C : Type 0} → Option (Answered C) → Call → ℕ → Written
+written_after None call L = front_of_all 0
+written_after (Some (Refused_by f)) call L = front_of_all 0
+written_after (Some Done) call L = written_by call L
+written_after (Some (Read_as m)) call L = written_by call L
 
 -- past what is written the charges stay: the charges themselves, and not only what they mean
 abbrev pub StaysPast : {C : Type 0} → Written → Strips C → Strips C → Type 0

@@ -15,15 +15,16 @@ use Rattle.bench.specs.declared.state.Verdict.{Verdict}
 use Rattle.player.specs.declared.player.Player.{Player}
 use Rattle.bench.specs.Answers.{verdict_parts}
 use Rattle.bench.specs.Benches.{Bench}
-use Rattle.bench.specs.States.{holding_bench, rule_of, density_of, holding_of}
+use Rattle.bench.specs.States.{holding_bench, rule_of, density_of, holding_of, draft_parts, holding_parts, breaking_parts}
 use Rattle.player.specs.declared.ledger.Ledger.{Ledger}
 use Rattle.player.specs.declared.playing.Playing.{Playing}
 use Rattle.player.specs.declared.sites.Sites.{Sites}
 use Rattle.player.specs.declared.sites.Crossings.{Crossings}
 use Rattle.player.specs.Answers.{strips, of_player, open_cells}
-use Rattle.player.specs.Calls.{Call, Answer, Strips, charges, crossing_at, booked, checked, Does}
+use Rattle.player.specs.Calls.{Call, Answer, Ring, Strips, charges, crossing_at, booked, checked, Does}
 use Rattle.player.specs.Calls.Call.{closes}
 use Rattle.player.specs.Calls.Answer.{done}
+use Rattle.player.specs.Logs.{GoesOn}
 
 -- an open ring: the bench that it is played on, and how many cells it has
 pub record OpenRing {C : Type 0} (K : Kind C) : Type 0 where
@@ -54,7 +55,7 @@ module _ {C R D : Type 0} {c : ChargeOf C} {r : RuleOf R} {d : DensityOf D C} wh
 
   -- what is performed hands on the rule and the density of a draft, and a refusal the draft as it is
   abbrev pub HandsOnPlayer : Draft C R D c r d → Result (Verdict C (Player (Holding C R D c r d) (Playing C R D c r d)) (Breaking C R D c r d)) (Refused (Draft C R D c r d)) → Type 0
-  HandsOnPlayer draft (Ok verdict) = verdict_parts (λ p. (player_holding p).parts) (λ b. b.parts) verdict ≡ draft.parts
+  HandsOnPlayer draft (Ok verdict) = verdict_parts (λ p. holding_parts (player_holding p)) breaking_parts verdict ≡ draft_parts draft
   HandsOnPlayer draft (Err e) = e.state ≡ draft
 
 -- sites of a ring: the ring
@@ -125,6 +126,7 @@ module _ {C : Type 0} {K : Kind C} (ring : OpenRing K) where
   abbrev pub DoesOn : Call → Strips C → Answer K.group.Carrier → Strips C → Type 0
   DoesOn call old said new = Does K ring.bench.rule ring.bench.density ring.len call (meant K old) said (meant K new)
 
-  -- a close looks at no strip: it is done whatever the strips are, and leaves them
-  abbrev pub LooksAtNone : Type 0
-  LooksAtNone = (s : Strips K.group.Carrier) → Does K ring.bench.rule ring.bench.density ring.len closes s done s
+  -- Wherever this ring stands a close goes on, whatever strips there are: it is done, and leaves each as it is.
+  abbrev pub ClosesAnywhere : Type 0
+  ClosesAnywhere = (p : Ring K.group.Carrier) → length p.cells ≡ ring.len → (s : Strips K.group.Carrier) →
+      GoesOn K ring.bench.rule ring.bench.density p (record { call = closes; handed = s; got = record { said = done; left = s } })

@@ -1,6 +1,6 @@
 // Closing the open ring.
 ghost use Rattle.std.specs.Prelude.{◌≡◌};
-ghost use Rattle.player.specs.Promises.{open_ring, holding_under, LooksAtNone};
+ghost use Rattle.player.specs.Promises.{open_ring, holding_under, ClosesAnywhere};
 
 use crate::playing::Playing;
 use automaton::{Density, Rule};
@@ -8,11 +8,11 @@ use bench::Holding;
 use charge::Charge;
 
 impl<C: Charge, R: Rule, D: Density<C>> Playing<C, R, D> {
-    // Gives back the holding bench that the ring was opened on, whose type says that it holds. As a line of a log the
-    // call is done whatever the strips are, and leaves them: none is looked at.
+    // Gives back the holding bench that the ring was opened on, whose type says that it holds. No strip is looked at: in
+    // every log where this ring stands the call may follow, whatever the strips are, and leaves them.
     pub fn close(self) -> Holding<C, R, D>
         ensures holding { result ≡ holding_under self }
-        ensures strips { LooksAtNone (open_ring self) }
+        ensures strips { ClosesAnywhere (open_ring self) }
     {
         let Playing { bench, len: _ } = self;
         bench

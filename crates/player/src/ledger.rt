@@ -108,7 +108,7 @@ impl<'a, C: Charge> Ledger<'a, C> {
 
     // Adds to the charges of the `count` sites up to site i, going round.
     fn book_back<S: SiteCharges<C>>(&mut self, i: usize, count: usize, charges: &S)
-        requires { (i < length (ledger_charges self.old)) × (count ≤ length (ledger_charges self.old)) }
+        requires { let len = length (ledger_charges self.old) in (i < len) × (count ≤ len) }
         ensures sites { let old = map C.kind.means (ledger_charges self.old) in
             let len = length (ledger_charges self.old) in
             let near = up_to C.kind.group len i count (S.charges C.kind charges.now) in

@@ -71,7 +71,7 @@ fn open_on<C: Charge, R: Rule, D: Density<C>>(
 
 impl<C: Charge, R: Rule, D: Density<C>> Playing<C, R, D> {
     // Copies a ring to the cells, writes each site's charge to opening, and sets crossed and touched to zero. The bench
-    // holds, so every log of it is true.
+    // holds, so each line of every log of it without gaps is true.
     pub fn open(
         bench: Holding<C, R, D>,
         ring: &[u8],

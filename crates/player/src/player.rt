@@ -5,7 +5,7 @@ ghost use Rattle.bench.specs.States.{holding_bench};
 ghost use Rattle.player.specs.Answers.{asked, answered, answers_to, done_said, read_said, done_answer, read_answer, open_cells};
 ghost use Rattle.player.specs.Logs.{standing, longest_opened, LogsTrueOn};
 ghost use Rattle.player.specs.Promises.{all_strips, meant, ring_on, ring_len, open_ring, player_ring, player_holding, holding_under};
-ghost use Rattle.player.specs.Obeying.{said_on, left_on, cells_on, played_on, written, front_of_all, StaysPast};
+ghost use Rattle.player.specs.Obeying.{said_on, left_on, cells_on, played_on, written_after, front_of_all, StaysPast};
 
 use crate::call::{Answer, Call};
 use crate::meters::Reading;
@@ -64,7 +64,7 @@ fn obey_idle<C: Charge, R: Rule, D: Density<C>>(
     ensures cells { open_cells ring_len result.0
         ≡ cells_on (ring_on bench 0) (asked call.entry)
         (all_strips cells.old spare.now opening.old crossed.old touched.old) }
-    ensures charges { StaysPast (written result.1 (asked call.entry) 0)
+    ensures charges { StaysPast (written_after result.1 (asked call.entry) 0)
         (all_strips cells.old spare.now opening.old crossed.old touched.old)
         (all_strips cells.new spare.now opening.new crossed.new touched.new) }
     ensures bench { player_holding result.0 ≡ bench }
@@ -100,7 +100,7 @@ fn obey_playing<C: Charge, R: Rule, D: Density<C>>(
     ensures cells { open_cells ring_len result.0
         ≡ cells_on (open_ring playing) (asked call.entry)
         (all_strips cells.old spare.old opening.old crossed.old touched.old) }
-    ensures charges { StaysPast (written result.1 (asked call.entry) (open_ring playing).len)
+    ensures charges { StaysPast (written_after result.1 (asked call.entry) (open_ring playing).len)
         (all_strips cells.old spare.old opening.old crossed.old touched.old)
         (all_strips cells.new spare.new opening.new crossed.new touched.new) }
     ensures bench { player_holding result.0 ≡ holding_under playing }
@@ -123,7 +123,8 @@ fn obey_playing<C: Charge, R: Rule, D: Density<C>>(
     }
 }
 
-// Answers a call. One that the state does not allow has no answer. The bench holds, so every log of it is true.
+// Answers a call. One that the state does not allow has no answer. The bench holds, so each line of every log of it without
+// gaps is true.
 #[tactic(auto, using(crate::proofs::HoldingLogs::holding_logs))]
 pub fn obey<C: Charge, R: Rule, D: Density<C>>(
     player: PlayerOf<C, R, D>,
@@ -143,7 +144,7 @@ pub fn obey<C: Charge, R: Rule, D: Density<C>>(
     ensures cells { open_cells ring_len result.0
         ≡ cells_on (player_ring player) (asked call.entry)
         (all_strips cells.old spare.old opening.old crossed.old touched.old) }
-    ensures charges { StaysPast (written result.1 (asked call.entry) (player_ring player).len)
+    ensures charges { StaysPast (written_after result.1 (asked call.entry) (player_ring player).len)
         (all_strips cells.old spare.old opening.old crossed.old touched.old)
         (all_strips cells.new spare.new opening.new crossed.new touched.new) }
     ensures bench { player_holding result.0 ≡ player_holding player }

@@ -52,8 +52,8 @@ impl<C: Charge, R: Rule, D: Density<C>> Playing<C, R, D> {
             (meter_strips cells.now opening.old crossed.old touched.old)
             (reading_means C.kind result)
             (meter_strips cells.now opening.new crossed.new touched.new) }
-        ensures kept { (opening.new ≡ opening.old) × (crossed.new ≡ crossed.old) × (touched.new
-            ≡ touched.old) }
+        ensures kept { (opening.new ≡ opening.old) × (crossed.new ≡ crossed.old)
+            × (touched.new ≡ touched.old) }
     {
         Reading {
             opening: read_strip(opening, site),
@@ -76,8 +76,8 @@ impl<C: Charge, R: Rule, D: Density<C>> Playing<C, R, D> {
         ensures promise { DoesOn (open_ring self.now) (reads site)
             (meter_strips cells.now opening.old crossed.old touched.old) (read_said C.kind result)
             (meter_strips cells.now opening.new crossed.new touched.new) }
-        ensures kept { (opening.new ≡ opening.old) × (crossed.new ≡ crossed.old) × (touched.new
-            ≡ touched.old) }
+        ensures kept { (opening.new ≡ opening.old) × (crossed.new ≡ crossed.old)
+            × (touched.new ≡ touched.old) }
     {
         self.check_read(site, cells, opening, crossed, touched)?;
         Ok(self.read_on(site, cells, opening, crossed, touched))

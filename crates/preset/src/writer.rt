@@ -116,8 +116,8 @@ pub fn write_preset(
     out: &mut [u8],
 ) -> Result<usize, Fault>
     ensures answer { plainly result ≡ written (writing header letters.now entries.now out.old) }
-    ensures strip { let written = writing header letters.now entries.now out.old in
-        out.new ≡ strip_after (λ bytes. bytes) out.old written }
+    ensures strip { let made = writing header letters.now entries.now out.old in
+        out.new ≡ strip_after (λ bytes. bytes) out.old made }
     ensures number_reads_back { NumberReadsBack }
     ensures reads_back { PresetReadsBack }
 {

@@ -2,7 +2,7 @@ use Rattle.std.proofs.Common.{◌<◌, map, length, take, get_or, sym, ap, ◌�
 use Rattle.std.specs.Option.{option_map}
 use Rattle.player.specs.Logs.{standing}
 use Rattle.player.specs.Answers.{strips, asked, answered}
-use Rattle.player.specs.Obeying.{written, StaysPast}
+use Rattle.player.specs.Obeying.{written_after, StaysPast}
 use Rattle.player.specs.Promises.{all_strips}
 use Rattle.player.specs.Scripts.{said_to, left_by, cells_after}
 use Rattle.player.proofs.Plays.{script_more, answers_more, answers_past}
@@ -42,6 +42,6 @@ loop-i-preserved g c =
           (sym more)
           (stayed_more K r d first (map asked (take i a.script.now)) call answer (all_strips a.cells.now a.spare.now a.opening.now a.crossed.now a.touched.now)
           (all_strips now.cells now.spare now.opening now.crossed now.touched) (all_strips new.cells new.spare new.opening new.crossed new.touched)
-          inv.5 said (subst (λ n. StaysPast (written answer call n) (all_strips now.cells now.spare now.opening now.crossed now.touched)
+          inv.5 said (subst (λ n. StaysPast (written_after answer call n) (all_strips now.cells now.spare now.opening now.crossed now.touched)
           (all_strips new.cells new.spare new.opening new.crossed new.touched)) inv.1 told.charges)),
     )
