@@ -1,5 +1,5 @@
 -- The charges that a call and a script leave as they were: the charges themselves. Assumes nothing.
-use Rattle.std.proofs.Common.{◌≡◌, ℕ, ◌+◌, ◌-◌, ◌≤◌, max, Bool, true, false, cond, List, [], ◌∷◌, map, length, drop, fold, Some, None, Option, Result, Ok, Err, sym, refl, ap, ◌∙◌, subst, arith}
+use Rattle.std.proofs.Common.{◌≡◌, ℕ, ◌+◌, ◌-◌, ◌≤◌, max, Bool, true, false, cond, List, length, drop, Some, None, Option, Result, Ok, Err, sym, ap, ◌∙◌, subst, arith}
 use Rattle.std.specs.Option.{option_map}
 use Rattle.std.proofs.lemmas.List.{drop-drop}
 use Rattle.fault.specs.declared.Fault.{Fault}
@@ -9,7 +9,7 @@ use Rattle.player.specs.declared.call.Answer.{Answer as Answered}
 use Rattle.player.specs.declared.call.Answer.TheVariants.{Done, Reading as Read_as, Refused as Refused_by}
 use Rattle.player.specs.declared.meters.Reading.{Reading}
 use Rattle.player.specs.Answers.{answered, done_answer, read_answer, Stays}
-use Rattle.player.specs.Calls.{Call, Answer, Strips, Outcome, size, outcome}
+use Rattle.player.specs.Calls.{Call, Answer, Strips, size}
 use Rattle.player.specs.Calls.Call.{opens, touches, steps, reads, closes}
 use Rattle.player.specs.Calls.Answer.{done, reading, refused}
 use Rattle.player.specs.Logs.{Log, allowed, accepted, standing, ring_opened, longest_opened}

@@ -1,5 +1,4 @@
 use Rattle.player.specs.Answers.{strips}
-use Rattle.player.proofs.Staying.{touch-stays, step-stays, read-stays}
 use Rattle.player.proofs.Wide.{touches_left, touches_after, steps_left}
 use Rattle.player.proofs.player.obey_playing.Goals as goal
 
