@@ -32,7 +32,7 @@ le-min n a m few = go (nat_le n a) refl
 
 module _ {C : Type 0} (K : Kind C) (h : Header) (letters : List ℕ) (charges : List C) (sized : Sized h) where
   -- no preset needs more room than the largest
-  pub room-enough : (room cells : ℕ) → preset_found K (min room most_words) cells h letters charges ≡ preset_found K room cells h letters charges
+  pub room-enough : (room cells : ℕ) → preset_found K h letters charges (min room most_words) cells ≡ preset_found K h letters charges room cells
   room-enough room cells =
       let r = preset_rule h letters in
       let d = preset_density K h charges in
@@ -43,7 +43,7 @@ module _ {C : Type 0} (K : Kind C) (h : Header) (letters : List ℕ) (charges : 
 
   pub judged-on : (S : Sending C) (entries old new : List Entry) (strip ring : List ℕ) (work now : List C) (verdict : Result (Option (Break C)) Fault) (count : ℕ) (answer : JudgeAnswer)
       → map S.entry charges ≡ entries → length work ≡ min (length old) most_words
-      → JudgeFinds (preset_bench K h letters charges) (preset_found K (length work) (length strip) h letters charges) (lent work strip) (lent now ring) verdict
+      → JudgeFinds (preset_bench K h letters charges) (preset_found K h letters charges (length work) (length strip)) (lent work strip) (lent now ring) verdict
       → MatchResult verdict (λ _. count ≡ h.q ^ (h.n + h.k - 1 - 1)) (λ _. count ≡ 0)
       → new ≡ front (map S.entry (take count now)) old
       → answer ≡ told_of S verdict
@@ -51,9 +51,9 @@ module _ {C : Type 0} (K : Kind C) (h : Header) (letters : List ℕ) (charges : 
   judged-on S entries old new strip ring work now verdict count answer sent size finds many written told =
       let r' = preset_rule h letters in
       let d = preset_density K h charges in
-      let same : preset_found K (length work) (length strip) h letters charges ≡ preset_found K (length old) (length strip) h letters charges =
-      ap (λ n. preset_found K n (length strip) h letters charges) size ∙ room-enough (length old) (length strip) in
-      let is : JudgeFinds (bench_of K r' d) (preset_found K (length old) (length strip) h letters charges) (lent work strip) (lent now ring) verdict =
+      let same : preset_found K h letters charges (length work) (length strip) ≡ preset_found K h letters charges (length old) (length strip) =
+      ap (λ n. preset_found K h letters charges n (length strip)) size ∙ room-enough (length old) (length strip) in
+      let is : JudgeFinds (bench_of K r' d) (preset_found K h letters charges (length old) (length strip)) (lent work strip) (lent now ring) verdict =
       subst (λ f. JudgeFinds (bench_of K r' d) f (lent work strip) (lent now ring) verdict) same finds in
       record {
         charges = charges;
@@ -62,7 +62,7 @@ module _ {C : Type 0} (K : Kind C) (h : Header) (letters : List ℕ) (charges : 
         verdict_is = is.is;
         told = told;
         crossed = take count now;
-        meant = ap (λ n. map K.means (take n now)) (counted K (rule_label_list K.group r' d) (total K.group d) (λ c. total K.group d (next r' c)) (preset_found K (length old) (length strip) h letters charges) verdict count is.is.said many) ∙ is.crossed.0;
+        meant = ap (λ n. map K.means (take n now)) (counted K (rule_label_list K.group r' d) (total K.group d) (λ c. total K.group d (next r' c)) (preset_found K h letters charges (length old) (length strip)) verdict count is.is.said many) ∙ is.crossed.0;
         written = written;
         shown = is.shown;
       }

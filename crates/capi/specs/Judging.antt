@@ -34,7 +34,7 @@ told_of S verdict = judge_answer (plainly (sent_found S verdict))
 -- judged, and entries of charges that mean the crossings stand at the front of the first strip.
 module _ {C : Type 0} (K : Kind C) (S : Sending C) (h : Header) (letters : List ℕ) (entries old new : List Entry) (strip ring : List ℕ) where
   abbrev pub found_on : List C → Result (Option (ℕ × List ℕ)) Refusal
-  found_on charges = preset_found K (length old) (length strip) h letters charges
+  found_on charges = preset_found K h letters charges (length old) (length strip)
 
   pub record JudgedOn (answer : JudgeAnswer) : Type 0 where
     pub charges : List C

@@ -62,7 +62,7 @@ module _ {C : Type 0} (K : Kind C) (S : Sending C) (h : Header) (letters : List 
     pub charges : List C
     pub sent : map S.entry charges ≡ entries
     pub verdict : Result (Option (Break C)) Fault
-    pub finds : PlayFinds K S (preset_rule h letters) (preset_density K h charges) handed script (with_answers (length script) (length old) (preset_found K most_words most_shown h letters charges)) left old new verdict
+    pub finds : PlayFinds K S (preset_rule h letters) (preset_density K h charges) handed script (with_answers (length script) (length old) (preset_found K h letters charges most_words most_shown)) left old new verdict
     pub told : answer ≡ told_of S verdict
 
 -- with strips of zeros for all but the cells

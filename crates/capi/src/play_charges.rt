@@ -96,7 +96,7 @@ fn play_tables<C: Sent>(
     ensures { let h = preset.entry.header in
         let letters = preset.entry.letters.now in
         let b = preset_bench C.kind h letters charges.now in
-        let found = preset_found C.kind (length crossings.old) most_shown h letters charges.now in
+        let found = preset_found C.kind h letters charges.now (length crossings.old) most_shown in
         PlayFinds C.kind C.sending b.rule b.density
         (meant C.kind (all_strips cells.old spare.old opening.old crossed.old touched.old))
         (map (script_call rings.now) script.now)

@@ -55,8 +55,8 @@ preset_checked K h letters charges =
     bench_checked (preset_bench K h letters charges)))
 
 -- what judging finds on strips of some lengths, once the bench is made
-abbrev pub preset_found : {C : Type 0} → Kind C → ℕ → ℕ → Header → List ℕ → List C → Result (Option (ℕ × List ℕ)) Refusal
-preset_found K crossing_room ring_room h letters charges =
+abbrev pub preset_found : {C : Type 0} → Kind C → Header → List ℕ → List C → ℕ → ℕ → Result (Option (ℕ × List ℕ)) Refusal
+preset_found K h letters charges crossing_room ring_room =
     and_then (preset_checked K h letters charges) (λ _. judge_found (preset_bench K h letters charges) crossing_room ring_room)
 
 -- a break with its totals as entries, and what was found likewise

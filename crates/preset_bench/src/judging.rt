@@ -33,8 +33,8 @@ pub fn judge<C: Charge>(
 ) -> Result<Option<Break<C>>, Fault>
     ensures { let h = preset.entry.header in
         let letters = preset.entry.letters.now in
-        let found = preset_found C.kind (length crossings.old)
-        (length ring.old) h letters charges.now in
+        let found = preset_found C.kind h letters charges.now
+        (length crossings.old) (length ring.old) in
         JudgeFinds (preset_bench C.kind h letters charges.now) found
         (lent crossings.old ring.old) (lent crossings.new ring.new) result }
 {

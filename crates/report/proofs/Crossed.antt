@@ -20,13 +20,13 @@ use Rattle.report.specs.Reports.{ToldCrossings, crossing_shape}
 use Rattle.report.specs.Texts.{Shape, row_text, rows_text}
 
 pub page-told : {C : Type 0} (K : Kind C) (S : Sending C) (room cells : ℕ) (h : Header) (letters : List ℕ) (charges old new : List C) (strip ring : List ℕ) (o : Option (Break C))
-    → JudgeFinds (preset_bench K h letters charges) (preset_found K room cells h letters charges) (lent old strip) (lent new ring) (Ok o)
+    → JudgeFinds (preset_bench K h letters charges) (preset_found K h letters charges room cells) (lent old strip) (lent new ring) (Ok o)
     → (shape : Shape) → shape ≡ crossing_shape S.named h → (l : Line) → LineIs (rows_text (λ i x. row_text shape i (S.entry x)) 0 (take (shape.q ^ shape.m) new)) (answer_good o) l
     → ToldCrossings K S room cells h letters charges (Ok l)
 page-told K S room cells h letters charges old new strip ring o finds shape same l is =
     let b = preset_bench K h letters charges in
     let to = crossing_shape S.named h in
-    let found = preset_found K room cells h letters charges in
+    let found = preset_found K h letters charges room cells in
     let count = count-is K (label_of b) (total_before b) (total_after b) found o finds.is.said in
     record {
       answer = Ok o;
@@ -41,12 +41,12 @@ page-told K S room cells h letters charges old new strip ring o finds shape same
 
 -- what is told where judging is refused
 pub refusal-told : {C : Type 0} (K : Kind C) (S : Sending C) (room cells : ℕ) (h : Header) (letters : List ℕ) (charges old new : List C) (strip ring : List ℕ) (f : Fault)
-    → JudgeFinds (preset_bench K h letters charges) (preset_found K room cells h letters charges) (lent old strip) (lent new ring) (Err f)
+    → JudgeFinds (preset_bench K h letters charges) (preset_found K h letters charges room cells) (lent old strip) (lent new ring) (Err f)
     → ToldCrossings K S room cells h letters charges (Err f)
 refusal-told K S room cells h letters charges old new strip ring f finds = record {
   answer = Err f;
   is = finds.is;
-  crossed = take (length (unless_refused (preset_found K room cells h letters charges) (crossings_of (preset_bench K h letters charges)))) new;
+  crossed = take (length (unless_refused (preset_found K h letters charges room cells) (crossings_of (preset_bench K h letters charges)))) new;
   meant = finds.crossed.0;
   page = refl;
 }

@@ -17,8 +17,8 @@ abbrev pub CompareFinds : {C : Type 0} (K : Kind C) → Weights K.group.Carrier 
 CompareFinds K d e found old new = Finds K (two_label_list K.group d e) (total K.group d) (total K.group e) (ComparisonRight K d e) found old.crossings new.crossings old.ring new.ring
 
 -- what comparing finds on strips of some lengths, once the two densities are made
-abbrev pub pair_found : {C : Type 0} → Kind C → ℕ → ℕ → Header → List C → Header → List C → Found
-pair_found K crossing_room ring_room h charges h' charges' =
+abbrev pub pair_found : {C : Type 0} → Kind C → Header → List C → Header → List C → ℕ → ℕ → Found
+pair_found K h charges h' charges' crossing_room ring_room =
     and_then (done (table_making K h.q h.k charges)) (λ _.
     and_then (done (table_making K h'.q h'.k charges')) (λ _.
     compare_found K (preset_density K h charges) (preset_density K h' charges') crossing_room ring_room))

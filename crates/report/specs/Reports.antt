@@ -46,7 +46,7 @@ pub record VerdictLine {C : Type 0} (K : Kind C) (S : Sending C) (question : Que
 abbrev pub ToldJudgement : {C : Type 0} (K : Kind C) → Sending C → ℕ → ℕ → List ℕ → Header → List ℕ → List C → Line → Type 0
 ToldJudgement K S room cells name h letters charges =
     let b = preset_bench K h letters charges in
-    VerdictLine K S Judge name (judge_shape S.named h) (total_before b) (total_after b) (VerdictRight b) (preset_found K room cells h letters charges)
+    VerdictLine K S Judge name (judge_shape S.named h) (total_before b) (total_after b) (VerdictRight b) (preset_found K h letters charges room cells)
 
 -- the line of a preset of one kind: some charges that are sent as its entries are judged
 pub record JudgeLine {C : Type 0} (K : Kind C) (S : Sending C) (name : List ℕ) (h : Header) (letters : List ℕ) (entries : List Entry) (l : Line) : Type 0 where
@@ -73,7 +73,7 @@ ToldComparison K S room cells subject h charges h' others =
     (total K.group (preset_density K h charges))
     (total K.group (preset_density K h' others))
     (ComparisonRight K (preset_density K h charges) (preset_density K h' others))
-    (pair_found K room cells h charges h' others)
+    (pair_found K h charges h' others room cells)
 
 -- the line of the densities of two presets of one kind
 pub record CompareLine {C : Type 0} (K : Kind C) (S : Sending C) (subject : List ℕ) (h : Header) (entries : List Entry) (h' : Header) (entries' : List Entry) (l : Line) : Type 0 where
@@ -115,9 +115,9 @@ PageIs S shape crossed (Err f) (Err g) = f ≡ g
 -- The page of a preset with its charges, judged on strips of some lengths: charges that mean its crossings, a row each.
 pub record ToldCrossings {C : Type 0} (K : Kind C) (S : Sending C) (room cells : ℕ) (h : Header) (letters : List ℕ) (charges : List C) (r : Result Line Fault) : Type 0 where
   pub answer : Result (Option (Break C)) Fault
-  pub is : let b = preset_bench K h letters charges in FoundIs K (total_before b) (total_after b) (VerdictRight b) (preset_found K room cells h letters charges) answer
+  pub is : let b = preset_bench K h letters charges in FoundIs K (total_before b) (total_after b) (VerdictRight b) (preset_found K h letters charges room cells) answer
   pub crossed : List C
-  pub meant : map K.means crossed ≡ unless_refused (preset_found K room cells h letters charges) (crossings_of (preset_bench K h letters charges))
+  pub meant : map K.means crossed ≡ unless_refused (preset_found K h letters charges room cells) (crossings_of (preset_bench K h letters charges))
   pub page : PageIs S (crossing_shape S.named h) crossed answer r
 
 -- the page of a preset of one kind: some charges that are sent as its entries are judged

@@ -21,8 +21,8 @@ pub(crate) fn compare_tables<C: Charge>(
 ) -> Result<Option<Break<C>>, Fault>
     ensures { let d = preset_density C.kind first charges.now in
         let e = preset_density C.kind second others.now in
-        let found = pair_found C.kind (length crossings.old) (length ring.old)
-        first charges.now second others.now in
+        let found = pair_found C.kind first charges.now second others.now
+        (length crossings.old) (length ring.old) in
         CompareFinds C.kind d e found
         (lent crossings.old ring.old) (lent crossings.new ring.new) result }
 {

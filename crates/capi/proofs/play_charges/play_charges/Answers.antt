@@ -32,7 +32,7 @@ returns g c =
     let handed = strips K a.cells.now a.spare.now a.opening.now a.crossed.now a.touched.now in
     let script = map (script_call a.rings.now) a.script.now in
     let new = c.play_tables-found.new in
-    let at : ℕ → ℕ → Type 0 = λ n room. PlayFinds K S (preset_rule p.header p.letters.now) (preset_density K p.header charges) handed script (with_answers n (length a.answers.now) (preset_found K room most_shown p.header p.letters.now charges)) new.cells a.answers.now new.answers c.play_tables-found.result in
+    let at : ℕ → ℕ → Type 0 = λ n room. PlayFinds K S (preset_rule p.header p.letters.now) (preset_density K p.header charges) handed script (with_answers n (length a.answers.now) (preset_found K p.header p.letters.now charges room most_shown)) new.cells a.answers.now new.answers c.play_tables-found.result in
     record {
       charges = charges;
       sent = filled-sent S p.entries.now a.charges.now c.fill_charges.new.strip some allowed c.fill_charges.ensures.strip;
