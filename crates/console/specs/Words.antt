@@ -2,7 +2,7 @@
 use Rattle.std.specs.Prelude.{ℕ, ◌+◌, Bool, cond, not, ◌||◌, List, [], ◌∷◌, take, drop, Some, None, Option, ◌==◌}
 use Rattle.std.specs.List.{prefix_len}
 use Rattle.console.specs.declared.words.Class.{Class}
-use Rattle.console.specs.declared.words.Class.TheVariants.{Blank, NotBlank, NotNewline, NotColon}
+use Rattle.console.specs.declared.words.Class.TheVariants.{Blank, NotBlank, NotNewline, NotColon, NotHash}
 use Rattle.console.specs.declared.words.Split.{Split}
 use Rattle.console.specs.declared.words.Words.{Words}
 
@@ -19,6 +19,7 @@ belongs Blank b = blank b
 belongs NotBlank b = not (blank b)
 belongs NotNewline b = not (b == newline)
 belongs NotColon b = not (b == 58)
+belongs NotHash b = not (b == 35)
 
 -- the longest front of a text whose bytes are all of a class, and the text after it
 abbrev pub front : Class → List ℕ → List ℕ

@@ -3,7 +3,7 @@ ghost use Rattle.std.specs.Prelude.{◌≡◌, ◌<◌, IfSome};
 ghost use Rattle.console.specs.Numbers.{number_end, with_digit, number, signed_number};
 
 // A number is below this.
-const NUMBER_END: u64 = 1 << 63;
+pub const NUMBER_END: u64 = 1 << 63;
 
 // A value with one digit more, if the byte is a digit and the number stays below the end.
 fn with_digit(value: u64, byte: u8) -> Option<u64>
@@ -18,7 +18,7 @@ fn with_digit(value: u64, byte: u8) -> Option<u64>
 }
 
 // The number that a word writes, if it writes one.
-pub(crate) fn read_number(word: &[u8]) -> Option<u64>
+pub fn read_number(word: &[u8]) -> Option<u64>
     ensures value { result ≡ number word.now }
     ensures bound { IfSome result (λ v. v < number_end) }
 {

@@ -7,11 +7,12 @@ ghost use Rattle.console.specs.Words.{blank, belongs, front as front_of, after a
 
 // Which bytes a front of a text may have. An enum and no closure, since a clause can say which bytes belong to it.
 #[derive(Clone, Copy)]
-pub(crate) enum Class {
+pub enum Class {
     Blank,
     NotBlank,
     NotNewline,
     NotColon,
+    NotHash,
 }
 
 // A space, a tab or a carriage return.
@@ -30,13 +31,14 @@ impl Class {
             Class::NotBlank => !is_blank(byte),
             Class::NotNewline => byte != b'\n',
             Class::NotColon => byte != b':',
+            Class::NotHash => byte != b'#',
         }
     }
 }
 
 // A front of a text, and what comes after it.
 #[derive(Clone, Copy)]
-pub(crate) struct Split<'a> {
+pub struct Split<'a> {
     pub front: &'a [u8],
     pub rest: &'a [u8],
 }
@@ -49,7 +51,7 @@ fn front_len(class: Class, text: &[u8]) -> usize
 }
 
 // Cuts a text after the longest front whose bytes are all of the class.
-pub(crate) fn cut(class: Class, text: &[u8]) -> Split<'_>
+pub fn cut(class: Class, text: &[u8]) -> Split<'_>
     ensures front { result.front.now ≡ front_of class text.now }
     ensures rest { result.rest.now ≡ after_of class text.now }
 {
@@ -58,7 +60,7 @@ pub(crate) fn cut(class: Class, text: &[u8]) -> Split<'_>
 }
 
 // Whether a word is a text.
-pub(crate) fn is_text(word: &[u8], text: &str) -> bool
+pub fn is_text(word: &[u8], text: &str) -> bool
     ensures { result ≡ bytes_eq word.now text.now }
 {
     word == text.as_bytes()
@@ -79,7 +81,7 @@ fn first_word(line: &[u8]) -> Option<Split<'_>>
 
 // The words of a line, one after another: the line from the next word on.
 #[derive(Clone, Copy)]
-pub(crate) struct Words<'a> {
+pub struct Words<'a> {
     pub line: &'a [u8],
 }
 

@@ -1,0 +1,163 @@
+-- What a line of a script asks of a player. Assumes nothing.
+use Rattle.std.specs.Prelude.{ℕ, zero, suc, ◌-◌, Bool, cond, not, ◌&&◌, List, [], ◌∷◌, map, length, Some, None, Option, Result, Ok, Err, ◌==◌, nat_le, codes}
+use Rattle.std.specs.Borrow.{Bor}
+use Rattle.std.specs.Option.{ok_or}
+use Rattle.std.specs.Str.{all_ascii_digits, bytes_eq}
+use Rattle.fault.specs.Answers.{and_then}
+use Rattle.console.specs.Numbers.{number_end, number}
+use Rattle.console.specs.Words.{front, words}
+use Rattle.console.specs.declared.words.Class.TheVariants.{NotHash}
+use Rattle.cli.specs.declared.command.Command.{Command as CommandOf}
+use Rattle.cli.specs.declared.command.Command.TheVariants as command
+use Rattle.cli.specs.declared.command.Verb.{Verb}
+use Rattle.cli.specs.declared.command.Verb.TheVariants as verb
+use Rattle.cli.specs.declared.line.Wanted.{Wanted}
+use Rattle.cli.specs.declared.line.Wanted.TheVariants.{Letters, Site, Letter, Length, Steps, FewerSteps, LineEnd, Verb as A_verb}
+
+-- A command with what it is given: a ring by its letters, and numbers.
+pub data Command : Type 0 where
+  opens : List ℕ → Command
+  step : Command
+  steps : ℕ → Command
+  touches : ℕ → ℕ → Command
+  reads : ℕ → Command
+  arc : ℕ → ℕ → Command
+  meters : Command
+  closes : Command
+
+-- steps at once are at most as many as this
+abbrev pub most_steps : ℕ
+most_steps = 1000000
+
+-- one digit or more
+abbrev pub is_number : List ℕ → Bool
+is_number w = not (length w == 0) && all_ascii_digits w
+
+-- a number, where each beyond the end of the numbers of a page counts as that end: no site, letter or length comes near it
+abbrev pub or_end : Option ℕ → Bool → Option ℕ
+or_end (Some n) digits = Some n
+or_end None digits = cond digits (Some number_end) None
+
+abbrev pub count : List ℕ → Option ℕ
+count w = or_end (number w) (is_number w)
+
+-- the letters that digits write, one each
+abbrev pub letters : List ℕ → List ℕ
+letters w = map (λ b. b - 48) w
+
+abbrev pub ring : List ℕ → Option (List ℕ)
+ring w = cond (all_ascii_digits w) (Some (letters w)) None
+
+abbrev pub asked : CommandOf → Command
+asked (command.Open digits) = opens (letters digits.text.now)
+asked command.Step = step
+asked (command.Steps n) = steps n
+asked (command.Touch site letter) = touches site letter
+asked (command.Read site) = reads site
+asked (command.Arc site len) = arc site len
+asked command.Meters = meters
+asked command.Close = closes
+
+abbrev pub some_asked : Option CommandOf → Option Command
+some_asked None = None
+some_asked (Some c) = Some (asked c)
+
+-- what a line reads as, or what it should have where it has something else or nothing
+abbrev pub Reading : Type 0 → Type 0
+Reading X = Result X Wanted
+
+abbrev pub read : {X Y : Type 0} → (X → Y) → Reading X → Reading Y
+read f (Ok x) = Ok (f x)
+read f (Err e) = Err e
+
+-- a word that may be there
+abbrev pub text : Option (Bor (List ℕ)) → Option (List ℕ)
+text None = None
+text (Some w) = Some w.now
+
+-- the word i of a line, if it has so many
+abbrev pub word_at : ℕ → List (List ℕ) → Option (List ℕ)
+word_at i [] = None
+word_at zero (w ∷ ws) = Some w
+word_at (suc i) (w ∷ ws) = word_at i ws
+
+-- nothing may follow
+abbrev pub at_end : {X : Type 0} → Option (List ℕ) → X → Reading X
+at_end None x = Ok x
+at_end (Some w) x = Err LineEnd
+
+-- a word that is a number
+abbrev pub number_word : Wanted → Option (List ℕ) → Reading ℕ
+number_word wanted None = Err wanted
+number_word wanted (Some w) = ok_or (count w) wanted
+
+abbrev pub few : ℕ → Reading ℕ
+few n = cond (nat_le n most_steps) (Ok n) (Err FewerSteps)
+
+-- what each sort of command makes of the words after its name
+abbrev pub open_command : Option (List ℕ) → Option (List ℕ) → Reading Command
+open_command None second = Ok (opens [])
+open_command (Some w) second = and_then (ok_or (ring w) Letters) (λ r. at_end second (opens r))
+
+abbrev pub step_command : Option (List ℕ) → Option (List ℕ) → Reading Command
+step_command None second = Ok step
+step_command (Some w) second =
+    and_then (ok_or (count w) Steps) (λ n. and_then (few n) (λ m. at_end second (steps m)))
+
+abbrev pub touch_command : Option (List ℕ) → Option (List ℕ) → Option (List ℕ) → Reading Command
+touch_command first second third =
+    and_then (number_word Site first) (λ site.
+    and_then (number_word Letter second) (λ letter.
+    at_end third (touches site letter)))
+
+abbrev pub read_command : Option (List ℕ) → Option (List ℕ) → Reading Command
+read_command first second = and_then (number_word Site first) (λ site. at_end second (reads site))
+
+abbrev pub arc_command : Option (List ℕ) → Option (List ℕ) → Option (List ℕ) → Reading Command
+arc_command first second third =
+    and_then (number_word Site first) (λ site.
+    and_then (number_word Length second) (λ len.
+    at_end third (arc site len)))
+
+-- what a command of a sort is, by the words after its name
+abbrev pub of_verb : Verb → Option (List ℕ) → Option (List ℕ) → Option (List ℕ) → Reading Command
+of_verb verb.Open first second third = open_command first second
+of_verb verb.Step first second third = step_command first second
+of_verb verb.Touch first second third = touch_command first second third
+of_verb verb.Read first second third = read_command first second
+of_verb verb.Arc first second third = arc_command first second third
+of_verb verb.Meters first second third = at_end first meters
+of_verb verb.Close first second third = at_end first closes
+
+-- the names of the sorts
+abbrev pub verb_text : Verb → List ℕ
+verb_text verb.Open = codes "open"
+verb_text verb.Step = codes "step"
+verb_text verb.Touch = codes "touch"
+verb_text verb.Read = codes "read"
+verb_text verb.Arc = codes "arc"
+verb_text verb.Meters = codes "meters"
+verb_text verb.Close = codes "close"
+
+abbrev pub named_verb : List ℕ → Option Verb
+named_verb w =
+    cond (bytes_eq w (verb_text verb.Open)) (Some verb.Open)
+    (cond (bytes_eq w (verb_text verb.Step)) (Some verb.Step)
+    (cond (bytes_eq w (verb_text verb.Touch)) (Some verb.Touch)
+    (cond (bytes_eq w (verb_text verb.Read)) (Some verb.Read)
+    (cond (bytes_eq w (verb_text verb.Arc)) (Some verb.Arc)
+    (cond (bytes_eq w (verb_text verb.Meters)) (Some verb.Meters)
+    (cond (bytes_eq w (verb_text verb.Close)) (Some verb.Close) None))))))
+
+-- the command that words are, of which the first is its name
+abbrev pub named_command : Option (List ℕ) → Option (List ℕ) → Option (List ℕ) → Option (List ℕ) → Reading (Option Command)
+named_command None first second third = Ok None
+named_command (Some name) first second third =
+    and_then (ok_or (named_verb name) A_verb) (λ v. and_then (of_verb v first second third) (λ c. Ok (Some c)))
+
+abbrev pub command_of : List (List ℕ) → Reading (Option Command)
+command_of ws = named_command (word_at 0 ws) (word_at 1 ws) (word_at 2 ws) (word_at 3 ws)
+
+-- the command that a line is, unless it has no words; what follows a # is a comment
+abbrev pub line_command : List ℕ → Reading (Option Command)
+line_command line = command_of (words (front NotHash line))

@@ -1,0 +1,2 @@
+-- Lines. Assumes nothing.
+use Rattle.std.specs.Prelude.{ℕ}

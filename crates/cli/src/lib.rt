@@ -1,0 +1,10 @@
+// The command line as text: what its words and the lines of a script ask, and what is answered. Assumes nothing.
+#![tactic(auto)]
+
+mod command;
+mod count;
+mod line;
+mod verb;
+
+pub use command::{Command, Digits, Verb};
+pub use line::{MOST_STEPS, Wanted, read_line};
