@@ -1,10 +1,12 @@
 -- What a line of a script asks of a player. Assumes nothing.
-use Rattle.std.specs.Prelude.{ℕ, zero, suc, ◌-◌, Bool, cond, not, ◌&&◌, List, [], ◌∷◌, map, length, Some, None, Option, Result, Ok, Err, ◌==◌, nat_le, codes}
+use Rattle.std.specs.Prelude.{ℕ, zero, suc, ◌-◌, Bool, cond, not, ◌&&◌, List, [], ◌∷◌, ◌++◌, map, length, Some, None, Option, Result, Ok, Err, ◌==◌, nat_le, codes, decimal}
 use Rattle.std.specs.Borrow.{Bor}
 use Rattle.std.specs.Option.{ok_or}
 use Rattle.std.specs.Str.{all_ascii_digits, bytes_eq}
 use Rattle.fault.specs.Answers.{and_then}
 use Rattle.console.specs.Numbers.{number_end, number}
+use Rattle.automaton.specs.Shown.{digits}
+use Rattle.console.specs.Pages.{spaced}
 use Rattle.console.specs.Words.{front, words}
 use Rattle.console.specs.declared.words.Class.TheVariants.{NotHash}
 use Rattle.cli.specs.declared.command.Command.{Command as CommandOf}
@@ -161,3 +163,29 @@ command_of ws = named_command (word_at 0 ws) (word_at 1 ws) (word_at 2 ws) (word
 -- the command that a line is, unless it has no words; what follows a # is a comment
 abbrev pub line_command : List ℕ → Reading (Option Command)
 line_command line = command_of (words (front NotHash line))
+
+-- the sort of a command, and the words after its name
+abbrev pub verb_of : Command → Verb
+verb_of (opens ring) = verb.Open
+verb_of step = verb.Step
+verb_of (steps n) = verb.Step
+verb_of (touches site letter) = verb.Touch
+verb_of (reads site) = verb.Read
+verb_of (arc site len) = verb.Arc
+verb_of meters = verb.Meters
+verb_of closes = verb.Close
+
+abbrev pub arguments : Command → List (List ℕ)
+arguments (opens []) = []
+arguments (opens (a ∷ ring)) = digits (a ∷ ring) ∷ []
+arguments step = []
+arguments (steps n) = decimal n ∷ []
+arguments (touches site letter) = decimal site ∷ (decimal letter ∷ [])
+arguments (reads site) = decimal site ∷ []
+arguments (arc site len) = decimal site ∷ (decimal len ∷ [])
+arguments meters = []
+arguments closes = []
+
+-- a command as text: its name, and a space before each word after it
+abbrev pub command_text : Command → List ℕ
+command_text c = verb_text (verb_of c) ++ spaced (λ w. w) (arguments c)

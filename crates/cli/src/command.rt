@@ -1,5 +1,9 @@
 // The commands of a script.
-ghost use Rattle.std.specs.Prelude.{◌≡◌};
+ghost use Rattle.std.specs.Prelude.{◌≡◌, Some};
+ghost use Rattle.automaton.specs.Shown.{digits};
+ghost use Rattle.cli.specs.Commands.{asked, letters, command_text, verb_of};
+
+use std::fmt;
 
 // The letters of a ring as text, a digit each.
 #[derive(Clone, Copy, PartialEq, Eq, Debug)]
@@ -30,4 +34,50 @@ pub enum Command<'a> {
     Arc { site: usize, len: usize },
     Meters,
     Close,
+}
+
+impl fmt::Display for Digits<'_> {
+    ghost output = { λ d. Some (digits (letters d.text.now)) };
+
+    fn fmt<W: fmt::Write>(&self, f: &mut fmt::Formatter<W>) -> fmt::Result {
+        for byte in self.text {
+            let letter = byte.saturating_sub(b'0');
+            write!(f, "{letter}")?;
+        }
+        Ok(())
+    }
+}
+
+impl Command<'_> {
+    // What sort of command it is.
+    pub fn verb(&self) -> Verb
+        ensures { result ≡ verb_of (asked self.now) }
+    {
+        match self {
+            Command::Open(_) => Verb::Open,
+            Command::Step | Command::Steps(_) => Verb::Step,
+            Command::Touch { .. } => Verb::Touch,
+            Command::Read(_) => Verb::Read,
+            Command::Arc { .. } => Verb::Arc,
+            Command::Meters => Verb::Meters,
+            Command::Close => Verb::Close,
+        }
+    }
+}
+
+impl fmt::Display for Command<'_> {
+    ghost output = { λ c. Some (command_text (asked c)) };
+
+    fn fmt<W: fmt::Write>(&self, f: &mut fmt::Formatter<W>) -> fmt::Result {
+        let name = self.verb().name();
+        match self {
+            Command::Open(Digits { text: [] }) => f.write_str(name),
+            Command::Open(ring) => write!(f, "{name} {ring}"),
+            Command::Step | Command::Meters | Command::Close => f.write_str(name),
+            Command::Steps(count) => write!(f, "{name} {count}"),
+            Command::Touch { site, letter } => write!(f, "{name} {site} {letter}"),
+            Command::Read(site) => write!(f, "{name} {site}"),
+            Command::Arc { site, len } => write!(f, "{name} {site} {len}"),
+        }
+    }
 }

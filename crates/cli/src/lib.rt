@@ -4,7 +4,10 @@
 mod command;
 mod count;
 mod line;
+mod lines;
+mod script;
 mod verb;
 
 pub use command::{Command, Digits, Verb};
 pub use line::{MOST_STEPS, Wanted, read_line};
+pub use script::{ScriptError, read_script};

@@ -26,19 +26,19 @@ impl Verb {
 pub(crate) fn verb_named(word: &[u8]) -> Option<Verb>
     ensures { result ≡ named_verb word.now }
 {
-    if is_text(word, "open") {
+    if is_text(word, Verb::Open.name()) {
         Some(Verb::Open)
-    } else if is_text(word, "step") {
+    } else if is_text(word, Verb::Step.name()) {
         Some(Verb::Step)
-    } else if is_text(word, "touch") {
+    } else if is_text(word, Verb::Touch.name()) {
         Some(Verb::Touch)
-    } else if is_text(word, "read") {
+    } else if is_text(word, Verb::Read.name()) {
         Some(Verb::Read)
-    } else if is_text(word, "arc") {
+    } else if is_text(word, Verb::Arc.name()) {
         Some(Verb::Arc)
-    } else if is_text(word, "meters") {
+    } else if is_text(word, Verb::Meters.name()) {
         Some(Verb::Meters)
-    } else if is_text(word, "close") {
+    } else if is_text(word, Verb::Close.name()) {
         Some(Verb::Close)
     } else {
         None

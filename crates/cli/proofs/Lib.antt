@@ -1,0 +1,2 @@
+pub mod Collected
+pub mod LineCuts

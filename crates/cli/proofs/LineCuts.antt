@@ -1,0 +1,34 @@
+-- A text cut after its first line. Assumes nothing.
+use Rattle.std.proofs.Common.{◌≡◌, ℕ, true, false, eqb, List, [], ◌∷◌, length, drop, refl, ap, ◌∙◌, ⊎_elim, one-add, ◌<◌, arith}
+use Rattle.std.proofs.lemmas.Bool.{cases_Bool}
+use Rattle.std.proofs.lemmas.List.{nil_from_length}
+use Rattle.console.specs.Words.{newline, front, after}
+use Rattle.console.specs.declared.words.Class.TheVariants.{NotNewline}
+use Rattle.cli.specs.Lines.{before, lines}
+
+-- the first line, and the lines after the byte that ends it
+abbrev cut : List ℕ → List (List ℕ)
+cut bs = front NotNewline bs ∷ lines (drop 1 (after NotNewline bs))
+
+module _ (b : ℕ) (bs : List ℕ) where
+  at-newline : eqb b newline ≡ true → lines (b ∷ bs) ≡ cut (b ∷ bs)
+  at-newline e = rw e
+
+  past : eqb b newline ≡ false → before b (lines bs) ≡ (b ∷ front NotNewline bs) ∷ lines (drop 1 (after NotNewline bs)) → lines (b ∷ bs) ≡ cut (b ∷ bs)
+  past e h = rw (e, one-add) h
+
+cut-some : (b : ℕ) (bs : List ℕ) → lines (b ∷ bs) ≡ cut (b ∷ bs)
+cut-some b [] = ⊎_elim (at-newline b []) (λ e. past b [] e refl) (cases_Bool (eqb b newline))
+cut-some b (c ∷ bs) = ⊎_elim (at-newline b (c ∷ bs)) (λ e. past b (c ∷ bs) e (ap (before b) (cut-some c bs))) (cases_Bool (eqb b newline))
+
+pub line_cut : (bs : List ℕ) → (length bs ≡ 0 → ⊥) → lines bs ≡ cut bs
+line_cut [] h = absurd (h refl)
+line_cut (b ∷ bs) h = cut-some b bs
+
+-- the rest of a line that was cut begins with the byte that ends it, or is empty
+module _ (bs f r : List ℕ) (some : length bs ≡ 0 → ⊥) (front_is : f ≡ front NotNewline bs) (rest_is : r ≡ after NotNewline bs) where
+  pub line_ended : lines bs ≡ f ∷ lines (drop 1 r)
+  line_ended = line_cut bs some ∙ rw (front_is, rest_is)
+
+  pub line_last : length r < 1 → lines bs ≡ f ∷ lines r
+  line_last h = line_ended ∙ rw (nil_from_length r (omega (arith, h)))

@@ -1,0 +1,71 @@
+-- What a script asks: its lines, and the commands that they are. Assumes nothing.
+use Rattle.std.specs.Prelude.{◌≡◌, ℕ, ◌+◌, cond, List, [], ◌∷◌, ◌++◌, map, Some, None, Ok, Err, Option, Result, ◌==◌, ◌≢◌, codes, decimal, vec_items}
+use Rattle.fault.specs.Answers.{and_then}
+use Rattle.cli.specs.Lines.{lines}
+use Rattle.cli.specs.Commands.{Command, Reading, line_command, most_steps, asked}
+use Rattle.cli.specs.declared.line.Wanted.{Wanted}
+use Rattle.cli.specs.declared.line.Wanted.TheVariants.{Letters, Site, Letter, Length, Steps, FewerSteps, LineEnd, Verb}
+use Rattle.cli.specs.declared.script.ScriptError.{ScriptError}
+use Rattle.cli.specs.declared.script.ScriptError.TheVariants.{Memory, Line}
+use Rattle.cli.specs.declared.command.Command.{Command as CommandOf}
+use Rattle.cli.specs.declared.lines.Lines.{Lines}
+use Rattle.cli.specs.declared.lines.Numbered.{Numbered as NumberedOf}
+
+-- A line with its number.
+pub record Numbered : Type 0 where
+  pub number : ℕ
+  pub text : List ℕ
+
+abbrev pub numbered_of : NumberedOf → Numbered
+numbered_of l = record { number = l.number; text = l.text.now }
+
+-- lines numbered from n on
+abbrev pub numbered : ℕ → List (List ℕ) → List Numbered
+numbered n [] = []
+numbered n (l ∷ ls) = record { number = n; text = l } ∷ numbered (n + 1) ls
+
+abbrev pub lines_left : Lines → List Numbered
+lines_left l = numbered (l.passed + 1) (lines l.text.now)
+
+-- a command before others, if there is one
+abbrev pub with_command : Option Command → List Command → List Command
+with_command None cs = cs
+with_command (Some c) cs = c ∷ cs
+
+-- the command of a numbered line, or what the line should have
+abbrev pub at_line : Numbered → Reading (Option Command) → Result (Option Command) ScriptError
+at_line l (Ok c) = Ok c
+at_line l (Err wanted) = Err (Line l.number wanted)
+
+abbrev pub commands : List Numbered → Result (List Command) ScriptError
+commands [] = Ok []
+commands (l ∷ ls) =
+    and_then (at_line l (line_command l.text)) (λ c. and_then (commands ls) (λ cs. Ok (with_command c cs)))
+
+-- the commands that a script is, or its first line that is none and what it should have
+abbrev pub script : List ℕ → Result (List Command) ScriptError
+script text = commands (numbered 1 (lines text))
+
+-- an answer by what its value stands for
+abbrev pub scripted : {X Y : Type 0} → (X → Y) → Result X ScriptError → Result Y ScriptError
+scripted f (Ok x) = Ok (f x)
+scripted f (Err e) = Err e
+
+-- an answer is as defined, unless there is no memory
+abbrev pub Told : {X : Type 0} → Result X ScriptError → Result X ScriptError → Type 0
+Told r s = (r ≢ Err Memory) → r ≡ s
+
+-- what is said of a line that is no command
+abbrev pub wanted_text : Wanted → List ℕ
+wanted_text Verb = codes "open, step, touch, read, arc, meters or close"
+wanted_text Letters = codes "a ring as digits"
+wanted_text Site = codes "a site"
+wanted_text Letter = codes "a letter"
+wanted_text Length = codes "a number of sites"
+wanted_text Steps = codes "a number of steps"
+wanted_text FewerSteps = codes "at most " ++ (decimal most_steps ++ codes " steps")
+wanted_text LineEnd = codes "the end of the line"
+
+abbrev pub script_sentence : ScriptError → List ℕ
+script_sentence Memory = codes "There is not enough memory."
+script_sentence (Line line wanted) = codes "Line " ++ (decimal line ++ (codes ": expected " ++ (wanted_text wanted ++ codes ".")))

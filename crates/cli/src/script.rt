@@ -1,0 +1,82 @@
+// A script as commands.
+ghost use Rattle.std.specs.Prelude.{◌≡◌, Some, Ok, Err, IfErr, map, vec_items};
+ghost use Rattle.cli.specs.Commands.{asked, some_asked};
+ghost use Rattle.cli.specs.Commands.{line_command};
+ghost use Rattle.cli.specs.Scripts.{numbered_of, at_line, script, scripted, Told, wanted_text, script_sentence};
+
+use crate::command::Command;
+use crate::line::{MOST_STEPS, Wanted, read_line};
+use crate::lines::{Lines, Numbered};
+use std::alloc::Global;
+use std::error::Error;
+use std::fmt;
+
+// There is no memory, or a line is no command: its number, counted from 1, and what it should have.
+#[derive(Clone, Copy, PartialEq, Eq, Debug)]
+pub enum ScriptError {
+    Memory,
+    Line { line: usize, wanted: Wanted },
+}
+
+// The command that a numbered line is, unless it has no words.
+fn command_at(line: Numbered<'_>) -> Result<Option<Command<'_>>, ScriptError>
+    ensures { scripted some_asked result
+        ≡ at_line (numbered_of line.entry) (line_command line.entry.text.now) }
+{
+    match read_line(line.text) {
+        Ok(command) => Ok(command),
+        Err(wanted) => Err(ScriptError::Line {
+            line: line.number,
+            wanted,
+        }),
+    }
+}
+
+// The commands of a script, or its first line that is none. A line that is wrong is told even where there is no memory.
+pub fn read_script(alloc: Global, text: &[u8]) -> Result<Vec<Command<'_>>, ScriptError>
+    ensures commands { Told (scripted (λ v. map asked (vec_items v)) result) (script text.now) }
+    ensures wrong { IfErr (script text.now)
+        (λ e. scripted (λ v. map asked (vec_items v)) result ≡ Err e) }
+{
+    let mut commands = Vec::new(alloc);
+    let mut full = false;
+    for line in (Lines { passed: 0, text }) {
+        if let Some(command) = command_at(line)? {
+            full = full || commands.push(command).is_err();
+        }
+    }
+    if full {
+        return Err(ScriptError::Memory);
+    }
+    Ok(commands)
+}
+
+impl fmt::Display for Wanted {
+    ghost output = { λ w. Some (wanted_text w) };
+
+    fn fmt<W: fmt::Write>(&self, f: &mut fmt::Formatter<W>) -> fmt::Result {
+        match self {
+            Wanted::Verb => f.write_str("open, step, touch, read, arc, meters or close"),
+            Wanted::Letters => f.write_str("a ring as digits"),
+            Wanted::Site => f.write_str("a site"),
+            Wanted::Letter => f.write_str("a letter"),
+            Wanted::Length => f.write_str("a number of sites"),
+            Wanted::Steps => f.write_str("a number of steps"),
+            Wanted::FewerSteps => write!(f, "at most {MOST_STEPS} steps"),
+            Wanted::LineEnd => f.write_str("the end of the line"),
+        }
+    }
+}
+
+impl fmt::Display for ScriptError {
+    ghost output = { λ e. Some (script_sentence e) };
+
+    fn fmt<W: fmt::Write>(&self, f: &mut fmt::Formatter<W>) -> fmt::Result {
+        match self {
+            ScriptError::Memory => f.write_str("There is not enough memory."),
+            ScriptError::Line { line, wanted } => write!(f, "Line {line}: expected {wanted}."),
+        }
+    }
+}
+
+impl Error for ScriptError {}
