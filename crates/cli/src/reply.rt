@@ -1,0 +1,152 @@
+// What the commands of a script are answered.
+ghost use Rattle.std.specs.Prelude.{◌≡◌, Some};
+ghost use Rattle.cli.specs.Commands.{asked};
+ghost use Rattle.report.specs.Texts.{rows_text};
+ghost use Rattle.cli.specs.Replies.{unanswered, reply_to, reading_text, meters_row, meters_text, arc_text, adding_text, said, reply_text, ArcRight, ring_row};
+
+use crate::command::{Command, Verb};
+use charge::Charge;
+use console::EntryWord;
+use fault::{Fault, Stop};
+use player::{Answer, ArcReading, Reading};
+use preset::Sent;
+use std::fmt;
+
+// What a command is answered. The meters are of each site of the ring that is open, and an arc has more sites than it
+// where it is long.
+#[derive(Clone, Copy)]
+pub enum Reply<'a, C> {
+    NoRing,
+    RingOpen,
+    Done,
+    Refused(Fault),
+    Site(Reading<C>),
+    Meters(&'a [Reading<C>]),
+    Arc {
+        meters: ArcReading<C>,
+        adds_up: bool,
+    },
+    LongArc,
+}
+
+impl<'a, C: Charge> Reply<'a, C> {
+    // What a command of a sort is answered where it is one call.
+    pub fn to(verb: Verb, answer: Option<Answer<C>>) -> Reply<'a, C>
+        ensures { result ≡ reply_to verb answer }
+    {
+        match answer {
+            Some(Answer::Done) => Reply::Done,
+            Some(Answer::Refused(fault)) => Reply::Refused(fault),
+            Some(Answer::Reading(reading)) => Reply::Site(reading),
+            None if verb == Verb::Open => Reply::RingOpen,
+            None => Reply::NoRing,
+        }
+    }
+
+    // What an arc of `len` sites from `site` on is answered, by the readings of all sites of the ring that is open.
+    pub fn arc(readings: &[Reading<C>], site: usize, len: usize) -> Reply<'a, C>
+        ensures { ArcRight C.kind readings.now site len result }
+    {
+        if readings.is_empty() {
+            return Reply::NoRing;
+        }
+        if site >= readings.len() {
+            return Reply::Refused(Stop::BadPosition.at(0));
+        }
+        match ArcReading::over(readings, site, len) {
+            Some(meters) => Reply::Arc {
+                meters,
+                adds_up: meters.adds_up(),
+            },
+            None => Reply::LongArc,
+        }
+    }
+}
+
+// A charge as a word.
+fn word<C: Sent>(charge: C) -> EntryWord
+    ensures { result ≡ record { kind = C.sending.named; entry = C.sending.entry charge } }
+{
+    EntryWord {
+        kind: C::kind(),
+        entry: charge.to_entry(),
+    }
+}
+
+// The meters of a site as words.
+#[derive(Clone, Copy)]
+struct ReadingText<C> {
+    reading: Reading<C>,
+}
+
+impl<C: Sent> fmt::Display for ReadingText<C> {
+    ghost output = { λ r. Some (reading_text C.sending r.reading) };
+
+    fn fmt<W: fmt::Write>(&self, f: &mut fmt::Formatter<W>) -> fmt::Result {
+        let opening = word(self.reading.opening);
+        let crossed = word(self.reading.crossed);
+        let touched = word(self.reading.touched);
+        let now = word(self.reading.now);
+        write!(f, "opening {opening}, crossed {crossed}, touched {touched}, now {now}")
+    }
+}
+
+// The meters of a site as a row of a table.
+#[derive(Clone, Copy)]
+struct MetersRow<C> {
+    site: usize,
+    reading: Reading<C>,
+}
+
+impl<C: Sent> fmt::Display for MetersRow<C> {
+    ghost output = { λ r. Some (meters_row C.sending r.site r.reading) };
+
+    fn fmt<W: fmt::Write>(&self, f: &mut fmt::Formatter<W>) -> fmt::Result {
+        let site = self.site;
+        let opening = word(self.reading.opening);
+        let crossed = word(self.reading.crossed);
+        let touched = word(self.reading.touched);
+        let now = word(self.reading.now);
+        writeln!(f, "{site}\t{opening}\t{crossed}\t{touched}\t{now}")
+    }
+}
+
+// The meters of all sites, a row each.
+#[derive(Clone, Copy)]
+struct MetersRows<'a, C> {
+    readings: &'a [Reading<C>],
+}
+
+impl<C: Sent> fmt::Display for MetersRows<'_, C> {
+    ghost output = { λ t. Some (rows_text (meters_row C.sending) 0 t.readings.now) };
+
+    fn fmt<W: fmt::Write>(&self, f: &mut fmt::Formatter<W>) -> fmt::Result {
+        for (site, reading) in self.readings.iter().enumerate() {
+            let row = MetersRow {
+                site,
+                reading: *reading,
+            };
+            write!(f, "{row}")?;
+        }
+        Ok(())
+    }
+}
+
+// The meters of an arc as words.
+#[derive(Clone, Copy)]
+struct ArcText<C> {
+    meters: ArcReading<C>,
+}
+
+impl<C: Sent> fmt::Display for ArcText<C> {
+    ghost output = { λ a. Some (arc_text C.sending a.meters) };
+
+    fn fmt<W: fmt::Write>(&self, f: &mut fmt::Formatter<W>) -> fmt::Result {
+        let opening = word(self.meters.opening);
+        let into = word(self.meters.into);
+        let out = word(self.meters.out);
+        let touched = word(self.meters.touched);
+        let now = word(self.meters.now);
+        write!(f, "opening {opening}, in {into}, out {out}, touched {touched}, now {now}")
+    }
+}
