@@ -1,4 +1,6 @@
 pub mod Commands
 pub mod Lines
 pub mod Replies
+pub mod Requests
 pub mod Scripts
+pub mod Words

@@ -73,16 +73,16 @@ module _ {C : Type 0} (S : Sending C) where
       ++ (codes ", touched " ++ (charge_text a.touched
       ++ (codes ", now " ++ charge_text a.now))))))))
 
-  -- a command and what it is answered, as one line or as a line and a table
+  -- what a command is answered: the end of its line, and for the meters a table below it
   abbrev pub said : Reply C → List ℕ
-  said NoRing = codes ": no ring is open"
-  said RingOpen = codes ": a ring is open"
-  said Done = codes ": done"
-  said (Refused f) = codes ": " ++ sentence f
-  said (Site m) = codes ": " ++ reading_text m
+  said NoRing = codes ": no ring is open\n"
+  said RingOpen = codes ": a ring is open\n"
+  said Done = codes ": done\n"
+  said (Refused f) = codes ": " ++ (sentence f ++ codes "\n")
+  said (Site m) = codes ": " ++ (reading_text m ++ codes "\n")
   said (Meters ms) = codes ":\n" ++ meters_text ms.now
-  said (Arc a adds_up) = codes ": " ++ (arc_text a ++ (codes ", " ++ adding_text adds_up))
-  said LongArc = codes ": the arc is longer than the ring"
+  said (Arc a adds_up) = codes ": " ++ (arc_text a ++ (codes ", " ++ (adding_text adds_up ++ codes "\n")))
+  said LongArc = codes ": the arc is longer than the ring\n"
 
   abbrev pub reply_text : Command → Reply C → List ℕ
   reply_text c r = command_text c ++ said r
@@ -100,6 +100,6 @@ ArcRight K ms site len Done = ⊥
 ArcRight K ms site len (Site m) = ⊥
 ArcRight K ms site len (Meters ns) = ⊥
 
--- a ring, and a space before each of the charges that have crossed into its sites
+-- a ring, and a space before each of the charges that have crossed into its sites, as a line
 abbrev pub ring_row : {C : Type 0} → Sending C → List ℕ → List C → List ℕ
-ring_row S cells crossed = digits cells ++ spaced (charge_text S) crossed
+ring_row S cells crossed = digits cells ++ (spaced (charge_text S) crossed ++ codes "\n")

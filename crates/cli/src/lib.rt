@@ -6,10 +6,16 @@ mod count;
 mod line;
 mod lines;
 mod reply;
+mod request;
 mod script;
+mod subcommand;
+mod usage;
 mod verb;
 
 pub use command::{Command, Digits, Verb};
 pub use line::{MOST_STEPS, Wanted, read_line};
-pub use reply::Reply;
+pub use reply::{Reply, ReplyText, RingRow};
+pub use request::Request;
 pub use script::{ScriptError, read_script};
+pub use subcommand::Subcommand;
+pub use usage::{Operand, UsageError};

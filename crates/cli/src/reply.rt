@@ -1,10 +1,12 @@
 // What the commands of a script are answered.
 ghost use Rattle.std.specs.Prelude.{◌≡◌, Some};
 ghost use Rattle.cli.specs.Commands.{asked};
+ghost use Rattle.console.specs.Pages.{spaced};
 ghost use Rattle.report.specs.Texts.{rows_text};
-ghost use Rattle.cli.specs.Replies.{unanswered, reply_to, reading_text, meters_row, meters_text, arc_text, adding_text, said, reply_text, ArcRight, ring_row};
+ghost use Rattle.cli.specs.Replies.{reply_to, reading_text, meters_row, arc_text, reply_text, ArcRight, ring_row, charge_text};
 
 use crate::command::{Command, Verb};
+use automaton::ShownLetters;
 use charge::Charge;
 use console::EntryWord;
 use fault::{Fault, Stop};
@@ -148,5 +150,83 @@ impl<C: Sent> fmt::Display for ArcText<C> {
         let touched = word(self.meters.touched);
         let now = word(self.meters.now);
         write!(f, "opening {opening}, in {into}, out {out}, touched {touched}, now {now}")
+    }
+}
+
+// A command, and what it is answered: a line, and for the meters a table below it.
+#[derive(Clone, Copy)]
+pub struct ReplyText<'a, C> {
+    pub command: Command<'a>,
+    pub reply: Reply<'a, C>,
+}
+
+impl<C: Sent> fmt::Display for ReplyText<'_, C> {
+    ghost output = { λ t. Some (reply_text C.sending (asked t.command) t.reply) };
+
+    fn fmt<W: fmt::Write>(&self, f: &mut fmt::Formatter<W>) -> fmt::Result {
+        let command = self.command;
+        match self.reply {
+            Reply::NoRing => writeln!(f, "{command}: no ring is open"),
+            Reply::RingOpen => writeln!(f, "{command}: a ring is open"),
+            Reply::Done => writeln!(f, "{command}: done"),
+            Reply::Refused(fault) => writeln!(f, "{command}: {fault}"),
+            Reply::Site(reading) => {
+                let reading = ReadingText { reading };
+                writeln!(f, "{command}: {reading}")
+            }
+            Reply::Meters(readings) => {
+                let rows = MetersRows { readings };
+                write!(f, "{command}:\nsite\topening\tcrossed\ttouched\tnow\n{rows}")
+            }
+            Reply::Arc { meters, adds_up } => {
+                let arc = ArcText { meters };
+                let adds = if adds_up {
+                    "adds up"
+                } else {
+                    "does not add up"
+                };
+                writeln!(f, "{command}: {arc}, {adds}")
+            }
+            Reply::LongArc => writeln!(f, "{command}: the arc is longer than the ring"),
+        }
+    }
+}
+
+// A ring, and what has crossed into its sites, which may be left out.
+#[derive(Clone, Copy)]
+pub struct RingRow<'a, C> {
+    pub cells: &'a [u8],
+    pub crossed: &'a [C],
+}
+
+impl<C: Sent> fmt::Display for RingRow<'_, C> {
+    ghost output = { λ r. Some (ring_row C.sending r.cells.now r.crossed.now) };
+
+    fn fmt<W: fmt::Write>(&self, f: &mut fmt::Formatter<W>) -> fmt::Result {
+        let ring = ShownLetters {
+            letters: self.cells,
+        };
+        let words = Crossed {
+            charges: self.crossed,
+        };
+        writeln!(f, "{ring}{words}")
+    }
+}
+
+// Charges as words, a space before each.
+#[derive(Clone, Copy)]
+struct Crossed<'a, C> {
+    charges: &'a [C],
+}
+
+impl<C: Sent> fmt::Display for Crossed<'_, C> {
+    ghost output = { λ c. Some (spaced (charge_text C.sending) c.charges.now) };
+
+    fn fmt<W: fmt::Write>(&self, f: &mut fmt::Formatter<W>) -> fmt::Result {
+        for charge in self.charges {
+            let word = word(*charge);
+            write!(f, " {word}")?;
+        }
+        Ok(())
     }
 }

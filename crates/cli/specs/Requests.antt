@@ -1,0 +1,207 @@
+-- What the program's arguments ask. Assumes nothing.
+use Rattle.std.specs.Prelude.{ℕ, Bool, true, false, cond, ◌||◌, ◌&&◌, List, [], ◌∷◌, ◌++◌, map, length, Some, None, Ok, Err, Option, Result, ◌==◌, nat_le, codes, decimal, vec_items}
+use Rattle.std.specs.Option.{ok_or}
+use Rattle.std.specs.Str.{bytes_eq}
+use Rattle.std.specs.Str.Lossy.{utf8_valid_len}
+use Rattle.fault.specs.Answers.{and_then}
+use Rattle.cli.specs.Commands.{count, ring, most_steps, word_at, letters}
+use Rattle.cli.specs.Words.{shown_word}
+use Rattle.cli.specs.declared.request.Request.{Request as RequestOf}
+use Rattle.cli.specs.declared.request.Request.TheVariants as request
+use Rattle.cli.specs.declared.usage.Operand.{Operand}
+use Rattle.cli.specs.declared.usage.Operand.TheVariants.{Text, Preset, Ring, Steps}
+use Rattle.cli.specs.declared.usage.UsageError.{UsageError}
+use Rattle.cli.specs.declared.usage.UsageError.TheVariants as usage
+use Rattle.cli.specs.declared.subcommand.Subcommand.{Subcommand}
+use Rattle.cli.specs.declared.subcommand.Subcommand.TheVariants as verb
+
+-- What is asked, with the names of files, a ring by its letters, and how many steps; judge has its words as they are.
+pub data Request : Type 0 where
+  help : Request
+  show : List ℕ → Request
+  encode : List ℕ → List ℕ → Request
+  judge : List (List ℕ) → Request
+  crossings : List ℕ → Request
+  compare : List ℕ → List ℕ → Request
+  play : List ℕ → Request
+  run : List ℕ → List ℕ → ℕ → Bool → Request
+
+abbrev pub request_of : RequestOf → Request
+request_of request.Help = help
+request_of (request.Show preset) = show preset.now
+request_of (request.Encode text preset) = encode text.now preset.now
+request_of (request.Judge presets) = judge (map vec_items presets.now)
+request_of (request.Crossings preset) = crossings preset.now
+request_of (request.Compare first second) = compare first.now second.now
+request_of (request.Play preset) = play preset.now
+request_of (request.Run preset ring steps meters) = run preset.now (letters ring.text.now) steps meters
+
+-- Why arguments ask nothing, with the word that is wrong, or what is missing.
+pub data Complaint : Type 0 where
+  no_command : Complaint
+  unknown_command : List ℕ → Complaint
+  unknown_option : List ℕ → Complaint
+  missing : Operand → Complaint
+  surplus : List ℕ → Complaint
+  not_text : List ℕ → Complaint
+  not_ring : List ℕ → Complaint
+  not_steps : List ℕ → Complaint
+  many_steps : List ℕ → Complaint
+
+abbrev pub complaint : UsageError → Complaint
+complaint usage.NoCommand = no_command
+complaint (usage.UnknownCommand w) = unknown_command w.now
+complaint (usage.UnknownOption w) = unknown_option w.now
+complaint (usage.Missing operand) = missing operand
+complaint (usage.Surplus w) = surplus w.now
+complaint (usage.NotText w) = not_text w.now
+complaint (usage.NotRing w) = not_ring w.now
+complaint (usage.NotSteps w) = not_steps w.now
+complaint (usage.ManySteps w) = many_steps w.now
+
+abbrev pub Asking : Type 0 → Type 0
+Asking X = Result X Complaint
+
+-- an answer by what its value stands for
+abbrev pub asking : {X Y : Type 0} → (X → Y) → Result X UsageError → Asking Y
+asking f (Ok x) = Ok (f x)
+asking f (Err e) = Err (complaint e)
+
+-- a word that begins with a minus sign and has more is an option
+abbrev pub is_option : List ℕ → Bool
+is_option [] = false
+is_option (b ∷ []) = false
+is_option (b ∷ (c ∷ bs)) = b == 45
+
+-- all of a word is UTF-8
+abbrev pub is_utf8 : List ℕ → Bool
+is_utf8 w = utf8_valid_len w == length w
+
+-- a word that names a file
+abbrev pub name : List ℕ → Asking (List ℕ)
+name w = cond (is_option w) (Err (unknown_option w)) (cond (is_utf8 w) (Ok w) (Err (not_text w)))
+
+-- the operands of a command, one after another
+abbrev pub operand : Operand → Option (List ℕ) → Asking (List ℕ)
+operand what None = Err (missing what)
+operand what (Some w) = name w
+
+abbrev pub ring_operand : Option (List ℕ) → Asking (List ℕ)
+ring_operand None = Err (missing Ring)
+ring_operand (Some w) = cond (is_option w) (Err (unknown_option w)) (ok_or (ring w) (not_ring w))
+
+abbrev pub few_steps : List ℕ → ℕ → Asking ℕ
+few_steps w n = cond (nat_le n most_steps) (Ok n) (Err (many_steps w))
+
+abbrev pub steps_operand : Option (List ℕ) → Asking ℕ
+steps_operand None = Err (missing Steps)
+steps_operand (Some w) =
+    cond (is_option w) (Err (unknown_option w)) (and_then (ok_or (count w) (not_steps w)) (few_steps w))
+
+-- nothing may follow
+abbrev pub no_more : {X : Type 0} → Option (List ℕ) → X → Asking X
+no_more None x = Ok x
+no_more (Some w) x = Err (cond (is_option w) (unknown_option w) (surplus w))
+
+-- the option of run, and nothing more
+abbrev pub meters_flag : Option (List ℕ) → Option (List ℕ) → (Bool → Request) → Asking Request
+meters_flag None next f = Ok (f false)
+meters_flag (Some w) next f = cond (bytes_eq w (codes "--meters")) (no_more next (f true)) (no_more (Some w) (f false))
+
+-- the commands by name
+abbrev pub subcommand_text : Subcommand → List ℕ
+subcommand_text verb.Help = codes "help"
+subcommand_text verb.Show = codes "show"
+subcommand_text verb.Encode = codes "encode"
+subcommand_text verb.Judge = codes "judge"
+subcommand_text verb.Crossings = codes "crossings"
+subcommand_text verb.Compare = codes "compare"
+subcommand_text verb.Play = codes "play"
+subcommand_text verb.Run = codes "run"
+
+abbrev pub named_subcommand : List ℕ → Option Subcommand
+named_subcommand w =
+    cond (bytes_eq w (subcommand_text verb.Help)) (Some verb.Help)
+    (cond (bytes_eq w (subcommand_text verb.Show)) (Some verb.Show)
+    (cond (bytes_eq w (subcommand_text verb.Encode)) (Some verb.Encode)
+    (cond (bytes_eq w (subcommand_text verb.Judge)) (Some verb.Judge)
+    (cond (bytes_eq w (subcommand_text verb.Crossings)) (Some verb.Crossings)
+    (cond (bytes_eq w (subcommand_text verb.Compare)) (Some verb.Compare)
+    (cond (bytes_eq w (subcommand_text verb.Play)) (Some verb.Play)
+    (cond (bytes_eq w (subcommand_text verb.Run)) (Some verb.Run) None)))))))
+
+-- the name of a command
+abbrev pub command_named : Option (List ℕ) → Asking Subcommand
+command_named None = Err no_command
+command_named (Some w) =
+    ok_or (named_subcommand w) (cond (is_option w) (unknown_option w) (unknown_command w))
+
+-- at least one word
+abbrev pub judge_request : List (List ℕ) → Asking Request
+judge_request [] = Err (missing Preset)
+judge_request (w ∷ ws) = Ok (judge (w ∷ ws))
+
+-- what a command asks, by the words after its name
+abbrev pub one_file : (List ℕ → Request) → List (List ℕ) → Asking Request
+one_file f ws = and_then (operand Preset (word_at 0 ws)) (λ preset. no_more (word_at 1 ws) (f preset))
+
+abbrev pub two_files : Operand → (List ℕ → List ℕ → Request) → List (List ℕ) → Asking Request
+two_files what f ws =
+    and_then (operand what (word_at 0 ws)) (λ first.
+    and_then (operand Preset (word_at 1 ws)) (λ second.
+    no_more (word_at 2 ws) (f first second)))
+
+abbrev pub run_request : List (List ℕ) → Asking Request
+run_request ws =
+    and_then (operand Preset (word_at 0 ws)) (λ preset.
+    and_then (ring_operand (word_at 1 ws)) (λ ring.
+    and_then (steps_operand (word_at 2 ws)) (λ steps.
+    meters_flag (word_at 3 ws) (word_at 4 ws) (run preset ring steps))))
+
+abbrev pub asked_of : Subcommand → List (List ℕ) → Asking Request
+asked_of verb.Help ws = no_more (word_at 0 ws) help
+asked_of verb.Show ws = one_file show ws
+asked_of verb.Encode ws = two_files Text encode ws
+asked_of verb.Judge ws = judge_request ws
+asked_of verb.Crossings ws = one_file crossings ws
+asked_of verb.Compare ws = two_files Preset compare ws
+asked_of verb.Play ws = one_file play ws
+asked_of verb.Run ws = run_request ws
+
+-- a word that asks for the page of help, wherever it stands
+abbrev pub asks_help : List ℕ → Bool
+asks_help w = bytes_eq w (codes "--help") || bytes_eq w (codes "-h")
+
+abbrev pub any_help : List (List ℕ) → Bool
+any_help [] = false
+any_help (w ∷ ws) = asks_help w || any_help ws
+
+abbrev pub others : List (List ℕ) → List (List ℕ)
+others [] = []
+others (w ∷ ws) = ws
+
+-- what the words after the program's name ask
+abbrev pub requested : List (List ℕ) → Asking Request
+requested ws =
+    cond (any_help ws)
+    (Ok help)
+    (and_then (command_named (word_at 0 ws)) (λ v. asked_of v (others ws)))
+
+abbrev pub operand_text : Operand → List ℕ
+operand_text Text = codes "TEXT"
+operand_text Preset = codes "PRESET"
+operand_text Ring = codes "RING"
+operand_text Steps = codes "STEPS"
+
+-- why arguments ask nothing
+abbrev pub usage_sentence : Complaint → List ℕ
+usage_sentence no_command = codes "no command is given"
+usage_sentence (unknown_command w) = shown_word w ++ codes " is no command"
+usage_sentence (unknown_option w) = shown_word w ++ codes " is no option here"
+usage_sentence (missing what) = operand_text what ++ codes " is missing"
+usage_sentence (surplus w) = shown_word w ++ codes " is one word too many"
+usage_sentence (not_text w) = shown_word w ++ codes " is not UTF-8"
+usage_sentence (not_ring w) = shown_word w ++ codes " is no ring as digits"
+usage_sentence (not_steps w) = shown_word w ++ codes " is no number of steps"
+usage_sentence (many_steps w) =
+    shown_word w ++ (codes " steps are too many: at most " ++ (decimal most_steps ++ codes " are run at once"))
