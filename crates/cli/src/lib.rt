@@ -15,7 +15,7 @@ mod verb;
 pub use command::{Command, Digits, Verb};
 pub use line::{MOST_STEPS, Wanted, read_line};
 pub use reply::{Reply, ReplyText, RingRow};
-pub use request::Request;
+pub use request::{Request, file_name, read_arguments};
 pub use script::{ScriptError, read_script};
 pub use subcommand::Subcommand;
 pub use usage::{Operand, UsageError};

@@ -1,7 +1,8 @@
 // What the program's arguments ask.
 ghost use Rattle.std.specs.Prelude.{◌≡◌, if◌then◌else◌, Some, None, map, vec_items};
 ghost use Rattle.cli.specs.Commands.{text, word_at, letters};
-ghost use Rattle.cli.specs.Requests.{is_option, is_utf8, name, operand, ring_operand, steps_operand, no_more, asking, request_of};
+ghost use Rattle.cli.specs.Requests.{is_option, is_utf8, name, operand, ring_operand, steps_operand, no_more, asking, request_of, asked_of, command_named, asks_help, any_help, requested};
+ghost use Rattle.cli.specs.declared.subcommand.Subcommand.TheVariants as verb;
 
 use crate::command::Digits;
 use crate::count::{read_count, read_ring};
@@ -128,5 +129,139 @@ fn word_at(words: &[Vec<u8>], i: usize) -> Option<&[u8]>
     match words.get(i) {
         Some(word) => Some(word.as_slice()),
         None => None,
+    }
+}
+
+// What is asked of one file.
+fn show<'a>(words: &'a [Vec<u8>]) -> Result<Request<'a>, UsageError<'a>>
+    ensures { asking request_of result ≡ asked_of verb.Show (map vec_items words.now) }
+{
+    let preset = operand(Operand::Preset, word_at(words, 0))?;
+    no_more(Request::Show { preset }, word_at(words, 1))
+}
+
+fn crossings<'a>(words: &'a [Vec<u8>]) -> Result<Request<'a>, UsageError<'a>>
+    ensures { asking request_of result ≡ asked_of verb.Crossings (map vec_items words.now) }
+{
+    let preset = operand(Operand::Preset, word_at(words, 0))?;
+    no_more(Request::Crossings { preset }, word_at(words, 1))
+}
+
+fn play<'a>(words: &'a [Vec<u8>]) -> Result<Request<'a>, UsageError<'a>>
+    ensures { asking request_of result ≡ asked_of verb.Play (map vec_items words.now) }
+{
+    let preset = operand(Operand::Preset, word_at(words, 0))?;
+    no_more(Request::Play { preset }, word_at(words, 1))
+}
+
+// What is asked of two files.
+fn encode<'a>(words: &'a [Vec<u8>]) -> Result<Request<'a>, UsageError<'a>>
+    ensures { asking request_of result ≡ asked_of verb.Encode (map vec_items words.now) }
+{
+    let text = operand(Operand::Text, word_at(words, 0))?;
+    let preset = operand(Operand::Preset, word_at(words, 1))?;
+    no_more(Request::Encode { text, preset }, word_at(words, 2))
+}
+
+fn compare<'a>(words: &'a [Vec<u8>]) -> Result<Request<'a>, UsageError<'a>>
+    ensures { asking request_of result ≡ asked_of verb.Compare (map vec_items words.now) }
+{
+    let first = operand(Operand::Preset, word_at(words, 0))?;
+    let second = operand(Operand::Preset, word_at(words, 1))?;
+    no_more(Request::Compare { first, second }, word_at(words, 2))
+}
+
+fn judge<'a>(words: &'a [Vec<u8>]) -> Result<Request<'a>, UsageError<'a>>
+    ensures { asking request_of result ≡ asked_of verb.Judge (map vec_items words.now) }
+{
+    match words {
+        [] => Err(UsageError::Missing(Operand::Preset)),
+        [_, ..] => Ok(Request::Judge { presets: words }),
+    }
+}
+
+// A ring that is run, with the option that asks for its meters.
+fn run<'a>(words: &'a [Vec<u8>]) -> Result<Request<'a>, UsageError<'a>>
+    ensures { asking request_of result ≡ asked_of verb.Run (map vec_items words.now) }
+{
+    let preset = operand(Operand::Preset, word_at(words, 0))?;
+    let ring = ring_operand(word_at(words, 1))?;
+    let steps = steps_operand(word_at(words, 2))?;
+    let option = word_at(words, 3);
+    let meters = option.is_some_and(|word| is_text(word, "--meters"));
+    let next = if meters { word_at(words, 4) } else { option };
+    no_more(
+        Request::Run {
+            preset,
+            ring,
+            steps,
+            meters,
+        },
+        next,
+    )
+}
+
+// What a command asks, by the words after its name.
+fn asked_of<'a>(
+    command: Subcommand,
+    words: &'a [Vec<u8>],
+) -> Result<Request<'a>, UsageError<'a>>
+    ensures { asking request_of result ≡ asked_of command (map vec_items words.now) }
+{
+    match command {
+        Subcommand::Help => no_more(Request::Help, word_at(words, 0)),
+        Subcommand::Show => show(words),
+        Subcommand::Encode => encode(words),
+        Subcommand::Judge => judge(words),
+        Subcommand::Crossings => crossings(words),
+        Subcommand::Compare => compare(words),
+        Subcommand::Play => play(words),
+        Subcommand::Run => run(words),
+    }
+}
+
+// The command that the first word names.
+fn command_named(word: Option<&[u8]>) -> Result<Subcommand, UsageError<'_>>
+    ensures { asking (λ c. c) result ≡ command_named (text word.entry) }
+{
+    match word {
+        None => Err(UsageError::NoCommand),
+        Some(word) => match subcommand_named(word) {
+            Some(command) => Ok(command),
+            None if is_option(word) => Err(UsageError::UnknownOption(word)),
+            None => Err(UsageError::UnknownCommand(word)),
+        },
+    }
+}
+
+// A word that asks for the page of help.
+fn asks_help(word: &[u8]) -> bool
+    ensures { result ≡ asks_help word.now }
+{
+    is_text(word, "--help") || is_text(word, "-h")
+}
+
+fn any_help(words: &[Vec<u8>]) -> bool
+    ensures { result ≡ any_help (map vec_items words.now) }
+{
+    for word in words {
+        if asks_help(word) {
+            return true;
+        }
+    }
+    false
+}
+
+// What the words after the program's name ask. The option that asks for help may stand anywhere among them.
+pub fn read_arguments(words: &[Vec<u8>]) -> Result<Request<'_>, UsageError<'_>>
+    ensures { asking request_of result ≡ requested (map vec_items words.now) }
+{
+    if any_help(words) {
+        return Ok(Request::Help);
+    }
+    let command = command_named(word_at(words, 0))?;
+    match words {
+        [_, rest @ ..] => asked_of(command, rest),
+        [] => asked_of(command, words),
     }
 }
