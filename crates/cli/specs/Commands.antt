@@ -1,5 +1,5 @@
 -- What a line of a script asks of a player. Assumes nothing.
-use Rattle.std.specs.Prelude.{ℕ, zero, suc, ◌-◌, Bool, cond, not, ◌&&◌, List, [], ◌∷◌, ◌++◌, map, length, Some, None, Option, Result, Ok, Err, ◌==◌, nat_le, codes, decimal}
+use Rattle.std.specs.Prelude.{ℕ, zero, suc, ◌-◌, min, Bool, cond, not, ◌&&◌, List, [], ◌∷◌, ◌++◌, map, length, Some, None, Option, Result, Ok, Err, ◌==◌, nat_le, codes, decimal}
 use Rattle.std.specs.Borrow.{Bor}
 use Rattle.std.specs.Option.{ok_or}
 use Rattle.std.specs.Str.{all_ascii_digits, bytes_eq}
@@ -9,6 +9,8 @@ use Rattle.automaton.specs.Shown.{digits}
 use Rattle.console.specs.Pages.{spaced}
 use Rattle.console.specs.Words.{front, words}
 use Rattle.console.specs.declared.words.Class.TheVariants.{NotHash}
+use Rattle.player.specs.Calls.{Call}
+use Rattle.player.specs.Calls.Call.{opens as call_opens, touches as call_touches, steps as call_steps, reads as call_reads, closes as call_closes}
 use Rattle.cli.specs.declared.command.Command.{Command as CommandOf}
 use Rattle.cli.specs.declared.command.Command.TheVariants as command
 use Rattle.cli.specs.declared.command.Verb.{Verb}
@@ -189,3 +191,15 @@ arguments closes = []
 -- a command as text: its name, and a space before each word after it
 abbrev pub command_text : Command → List ℕ
 command_text c = verb_text (verb_of c) ++ spaced (λ w. w) (arguments c)
+
+-- The player's call that a command is, if it is one call, for the ring that is opened. A number above every letter is asked as
+-- the highest, which no alphabet has.
+abbrev pub one_call : Command → List ℕ → Option Call
+one_call (opens r) ring = Some (call_opens ring)
+one_call step ring = Some call_steps
+one_call (steps n) ring = None
+one_call (touches site letter) ring = Some (call_touches site (min letter 255))
+one_call (reads site) ring = Some (call_reads site)
+one_call (arc site len) ring = None
+one_call meters ring = None
+one_call closes ring = Some call_closes

@@ -1,5 +1,6 @@
 pub mod Commands
 pub mod Lines
+pub mod Outcomes
 pub mod Replies
 pub mod Requests
 pub mod Scripts

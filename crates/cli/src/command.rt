@@ -1,8 +1,12 @@
 // The commands of a script.
-ghost use Rattle.std.specs.Prelude.{◌≡◌, Some};
+ghost use Rattle.std.specs.Prelude.{◌≡◌, Some, IfOk, vec_items};
+ghost use Rattle.std.specs.Option.{option_map};
+ghost use Rattle.player.specs.Answers.{asked as call_asked};
 ghost use Rattle.automaton.specs.Shown.{digits};
-ghost use Rattle.cli.specs.Commands.{asked, letters, command_text, verb_of};
+ghost use Rattle.cli.specs.Commands.{asked, letters, command_text, verb_of, one_call};
 
+use player::Call;
+use std::alloc::{AllocError, Global};
 use std::fmt;
 
 // The letters of a ring as text, a digit each.
@@ -36,6 +40,19 @@ pub enum Command<'a> {
     Close,
 }
 
+impl Digits<'_> {
+    // The letters.
+    pub fn to_letters(self, alloc: Global) -> Result<Vec<u8>, AllocError>
+        ensures { IfOk result (λ v. vec_items v ≡ letters self.entry.text.now) }
+    {
+        let mut letters = Vec::new(alloc);
+        for byte in self.text {
+            letters.push(byte.saturating_sub(b'0'))?;
+        }
+        Ok(letters)
+    }
+}
+
 impl fmt::Display for Digits<'_> {
     ghost output = { λ d. Some (digits (letters d.text.now)) };
 
@@ -61,6 +78,24 @@ impl Command<'_> {
             Command::Arc { .. } => Verb::Arc,
             Command::Meters => Verb::Meters,
             Command::Close => Verb::Close,
+        }
+    }
+
+    // The player's call that it is, if it is one call, where `ring` has the letters of the ring that it opens. A number
+    // above every letter is asked as the highest, which no alphabet has.
+    pub fn call<'a>(&self, ring: &'a [u8]) -> Option<Call<'a>>
+        ensures { option_map call_asked result ≡ one_call (asked self.now) ring.now }
+    {
+        match *self {
+            Command::Open(_) => Some(Call::Open(ring)),
+            Command::Step => Some(Call::Step),
+            Command::Touch { site, letter } => Some(Call::Touch {
+                site,
+                letter: u8::try_from(letter).unwrap_or(u8::MAX),
+            }),
+            Command::Read(site) => Some(Call::Read { site }),
+            Command::Close => Some(Call::Close),
+            Command::Steps(_) | Command::Arc { .. } | Command::Meters => None,
         }
     }
 }

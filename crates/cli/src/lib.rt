@@ -3,8 +3,10 @@
 
 mod command;
 mod count;
+mod help;
 mod line;
 mod lines;
+mod outcome;
 mod reply;
 mod request;
 mod script;
@@ -13,7 +15,9 @@ mod usage;
 mod verb;
 
 pub use command::{Command, Digits, Verb};
+pub use help::USAGE;
 pub use line::{MOST_STEPS, Wanted, read_line};
+pub use outcome::Outcome;
 pub use reply::{Reply, ReplyText, RingRow};
 pub use request::{Request, file_name, read_arguments};
 pub use script::{ScriptError, read_script};
