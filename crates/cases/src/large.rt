@@ -1,27 +1,25 @@
-// Presets of the largest sizes, shown, encoded, judged, compared and their crossings told. The contracts of those calls
-// let each answer that there is not enough memory: here each has enough.
+// Presets of the largest sizes, shown, encoded, judged and compared, and their crossings told. The contracts of those
+// calls let each answer that there is not enough memory: here each has enough.
 use console::{encode_page, show_preset};
 use preset::{Entry, Header, write_preset};
-use report::{compare_line, crossings_page, judge_line};
-use std::alloc::{AllocError, Global};
+use report::{Line, compare_line, crossings_page, judge_line};
+use std::alloc::Global;
 use std::test::Fail;
-
-// The most letters or entries.
-const MOST: usize = 4096;
 
 const NONE: Entry = Entry {
     signed: 0,
     plain: 0,
 };
 
-// A kind of charge, what the letter 1 weighs, what crosses at the word of zeros in any case, and what crosses at the
-// word of ones once each cell has taken the letter of the eleventh cell to its right.
+// A kind of charge, what the letter 1 weighs, the row of crossings at the word of zeros, and the rows at the word of ones
+// where each cell takes the letter of the eleventh cell to its right and where it keeps its own.
 #[derive(Clone, Copy)]
 struct Kind {
     kind: u64,
     one: Entry,
-    nothing: &'static str,
-    eleven: &'static str,
+    zeros: &'static str,
+    taken: &'static str,
+    kept: &'static str,
 }
 
 const KINDS: [Kind; 2] = [
@@ -31,8 +29,9 @@ const KINDS: [Kind; 2] = [
             signed: 150,
             plain: 0,
         },
-        nothing: "0",
-        eleven: "-1650",
+        zeros: "00000000000\t0\n",
+        taken: "\n11111111111\t-1650\n",
+        kept: "\n11111111111\t0\n",
     },
     Kind {
         kind: 3,
@@ -40,8 +39,9 @@ const KINDS: [Kind; 2] = [
             signed: 1,
             plain: 7,
         },
-        nothing: "0:0",
-        eleven: "-11:7",
+        zeros: "00000000000\t0:0\n",
+        taken: "\n11111111111\t-11:7\n",
+        kept: "\n11111111111\t0:0\n",
     },
 ];
 
@@ -55,22 +55,21 @@ fn last_letters(alloc: Global, kind: Kind, n: u64, k: u64) -> Result<Vec<u8>, Fa
         l: 0,
         k,
     };
-    let letters: Vec<u8> = (0..MOST).map(|code| (code % 2) as u8).collect(alloc)?;
-    let entries: Vec<Entry> = (0..MOST)
-        .map(|code| if code % 2 == 1 { kind.one } else { NONE })
-        .collect(alloc)?;
-    let mut bytes = vec![in alloc; 0u8; 3 * MOST]?;
+    let letters = [0, 1].repeat(alloc, 2048)?;
+    let entries = [NONE, kind.one].repeat(alloc, 2048)?;
+    let mut bytes = vec![in alloc; 0u8; 16384]?;
     let count = write_preset(header, &letters, &entries, &mut bytes)?;
     bytes.truncate(count);
     Ok(bytes)
 }
 
-// The first and the last row of a page of crossings at words of eleven letters.
-fn end_rows(alloc: Global, first: &str, last: &str) -> Result<(String, String), AllocError> {
-    Ok((
-        format!(in alloc; "00000000000\t{first}\n")?,
-        format!(in alloc; "\n11111111111\t{last}\n")?,
-    ))
+// Whether what is shown of a preset is encoded as its bytes again, and then its verdict and its crossings.
+fn answers(alloc: Global, bytes: &[u8]) -> Result<(bool, Line, Line), Fail> {
+    let page = show_preset(alloc, bytes)?;
+    let again = encode_page(alloc, page.as_bytes())?;
+    let verdict = judge_line(alloc, "A", bytes)?;
+    let crossings = crossings_page(alloc, bytes)?;
+    Ok((again.as_slice() == bytes, verdict, crossings))
 }
 
 #[test]
@@ -79,20 +78,17 @@ fn memory_suffices(rt: HostRuntime) -> Result<(), Fail> {
     for kind in KINDS {
         let long = last_letters(alloc, kind, 12, 1)?;
         let wide = last_letters(alloc, kind, 1, 12)?;
-        for (bytes, ones) in [(&long, kind.eleven), (&wide, kind.nothing)] {
-            let page = show_preset(alloc, bytes)?;
-            assert_eq!(rt; encode_page(alloc, page.as_bytes()).as_ref(), Ok(bytes));
-            let line = judge_line(alloc, "A", bytes)?;
-            assert_eq!(rt; (line.text.as_str(), line.good), ("A\tholds", true));
-            let page = crossings_page(alloc, bytes)?;
-            let (first, last) = end_rows(alloc, kind.nothing, ones)?;
-            assert!(rt; page.good);
-            assert_eq!(rt; page.text.lines().count(), 2048);
-            assert!(rt; page.text.starts_with(first.as_str()), "not {first}");
-            assert!(rt; page.text.ends_with(last.as_str()), "not {last}");
+        for (bytes, ones) in [(&long, kind.taken), (&wide, kind.kept)] {
+            let (again, verdict, crossings) = answers(alloc, bytes)?;
+            assert!(rt; again && verdict.good && crossings.good);
+            assert_eq!(rt; verdict.text.as_str(), "A\tholds");
+            assert_eq!(rt; crossings.text.lines().count(), 2048);
+            assert!(rt; crossings.text.starts_with(kind.zeros));
+            assert!(rt; crossings.text.ends_with(ones), "not {ones}");
         }
         let line = compare_line(alloc, "A", &long, "B", &wide)?;
-        assert_eq!(rt; (line.text.as_str(), line.good), ("A\tB\tagree", true));
+        assert!(rt; line.good);
+        assert_eq!(rt; line.text.as_str(), "A\tB\tagree");
     }
     Ok(())
 }
