@@ -7,6 +7,8 @@ mod examples;
 #[cfg(test)]
 mod judging;
 #[cfg(test)]
+mod large;
+#[cfg(test)]
 mod number;
 #[cfg(test)]
 mod playing;
