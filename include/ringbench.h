@@ -84,7 +84,8 @@ struct ringbench_judge_answer {
 };
 
 /* A call of a script. Open takes `len` letters from index `at` of `rings` on; touch puts `letter` into cell `at`; read
- * reads site `at`; step and close take nothing. Another number is no call. */
+ * reads site `at`; step and close take nothing. Another number is no call. While no ring is open, an open of no letters is
+ * refused by 11 at place 0 wherever `at` points, past the end of `rings` too; while one is, it has no answer. */
 enum {
     RINGBENCH_OPEN = 1,
     RINGBENCH_TOUCH = 2,
