@@ -87,6 +87,17 @@ module _ {C : Type 0} (S : Sending C) where
   abbrev pub reply_text : Command → Reply C → List ℕ
   reply_text c r = command_text c ++ said r
 
+-- what the meters are answered, of the readings of all sites of the ring that is open: that none is open, or the readings
+abbrev pub MetersRight : {C : Type 0} → List (Reading C) → Reply C → Type 0
+MetersRight ms NoRing = ms ≡ []
+MetersRight ms (Meters ns) = (ns.now ≡ ms) × (0 < length ms)
+MetersRight ms (Refused f) = ⊥
+MetersRight ms RingOpen = ⊥
+MetersRight ms Done = ⊥
+MetersRight ms (Site m) = ⊥
+MetersRight ms (Arc a adds_up) = ⊥
+MetersRight ms LongArc = ⊥
+
 -- What an arc is answered, of the readings of all sites of the ring that is open: that none is open, that its first site is not
 -- on the ring, that it has more sites than the ring, or its meters and whether they add up.
 abbrev pub ArcRight : {C : Type 0} (K : Kind C) → List (Reading C) → ℕ → ℕ → Reply C → Type 0

@@ -3,7 +3,7 @@ ghost use Rattle.std.specs.Prelude.{◌≡◌, Some};
 ghost use Rattle.cli.specs.Commands.{asked};
 ghost use Rattle.console.specs.Pages.{spaced};
 ghost use Rattle.report.specs.Texts.{rows_text};
-ghost use Rattle.cli.specs.Replies.{reply_to, reading_text, meters_row, arc_text, reply_text, ArcRight, ring_row, charge_text};
+ghost use Rattle.cli.specs.Replies.{reply_to, reading_text, meters_row, arc_text, reply_text, ArcRight, MetersRight, ring_row, charge_text};
 
 use crate::command::{Command, Verb};
 use automaton::ShownLetters;
@@ -43,6 +43,16 @@ impl<'a, C: Charge> Reply<'a, C> {
             None if verb == Verb::Open => Reply::RingOpen,
             None => Reply::NoRing,
         }
+    }
+
+    // What the meters are answered, by the readings of all sites of the ring that is open.
+    pub fn meters(readings: &'a [Reading<C>]) -> Reply<'a, C>
+        ensures { MetersRight readings.now result }
+    {
+        if readings.is_empty() {
+            return Reply::NoRing;
+        }
+        Reply::Meters(readings)
     }
 
     // What an arc of `len` sites from `site` on is answered, by the readings of all sites of the ring that is open.
@@ -155,12 +165,12 @@ impl<C: Sent> fmt::Display for ArcText<C> {
 
 // A command, and what it is answered: a line, and for the meters a table below it.
 #[derive(Clone, Copy)]
-pub struct ReplyText<'a, C> {
-    pub command: Command<'a>,
-    pub reply: Reply<'a, C>,
+pub struct ReplyText<'c, 'r, C> {
+    pub command: Command<'c>,
+    pub reply: Reply<'r, C>,
 }
 
-impl<C: Sent> fmt::Display for ReplyText<'_, C> {
+impl<C: Sent> fmt::Display for ReplyText<'_, '_, C> {
     ghost output = { λ t. Some (reply_text C.sending (asked t.command) t.reply) };
 
     fn fmt<W: fmt::Write>(&self, f: &mut fmt::Formatter<W>) -> fmt::Result {

@@ -3,8 +3,8 @@ use crate::trouble::Trouble;
 use std::alloc::AllocError;
 use std::env::{Env, FillError};
 use std::fs;
-use std::fs::Permissions;
-use std::io::{ErrorKind, Write};
+use std::fs::{File, Permissions};
+use std::io::{ErrorKind, Read, Write};
 use std::os::unix::fs::MetadataExt;
 
 // A word of the command line is asked for with room for this many bytes, and then with twice as many and so on.
@@ -13,6 +13,15 @@ const WORD_ROOM: usize = 256;
 // The bytes of a file.
 pub(crate) fn read_file<'a>(rt: &HostRuntime, path: &'a str) -> Result<Vec<u8>, Trouble<'a>> {
     fs::read(rt, path).map_err(|error| Trouble::unread(path, error))
+}
+
+// The bytes of standard input.
+pub(crate) fn read_input<'a>(rt: &HostRuntime) -> Result<Vec<u8>, Trouble<'a>> {
+    let mut bytes = Vec::new(rt.alloc());
+    match rt.stdin().read_to_end(&mut bytes) {
+        Ok(_) => Ok(bytes),
+        Err(error) => Err(Trouble::input(error)),
+    }
 }
 
 // The word i of the command line, if it has so many. Word 0 is the program's name.
@@ -61,7 +70,7 @@ fn replace<'a>(
     permissions: Option<Permissions>,
 ) -> Result<(), Trouble<'a>> {
     let unfinished = format!(in rt.alloc(); "{target}.unfinished")?;
-    let mut file = match fs::create_new(rt, unfinished.as_str()) {
+    let mut file = match File::create_new(rt, unfinished.as_str()) {
         Ok(file) => file,
         Err(error) if error.kind() == ErrorKind::AlreadyExists => {
             return Err(Trouble::InTheWay(path));
@@ -97,7 +106,13 @@ pub(crate) fn write_file<'a>(
     }
     // the file itself, where the name is a link to it
     match fs::canonicalize(rt, path) {
-        Ok(target) => replace(rt, path, target.as_str(), bytes, Some(metadata.permissions())),
+        Ok(target) => replace(
+            rt,
+            path,
+            target.as_str(),
+            bytes,
+            Some(metadata.permissions()),
+        ),
         Err(error) => Err(Trouble::Unwritten(path, error)),
     }
 }

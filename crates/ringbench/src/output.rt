@@ -3,6 +3,7 @@ use crate::trouble::Trouble;
 use cli::Outcome;
 use console::ShowError;
 use fault::Fault;
+use report::Line;
 use std::fmt;
 
 // Prints a text in one piece, so that none of it comes after a failure.
@@ -29,4 +30,11 @@ pub(crate) fn complain<'a>(rt: &HostRuntime, error: ShowError) -> Result<Outcome
         ShowError::Memory => Err(Trouble::Memory),
         ShowError::Refused(fault) => refuse(rt, fault),
     }
+}
+
+// Prints a line of a report, and tells whether it is good.
+pub(crate) fn print_line<'a>(rt: &HostRuntime, line: Line) -> Result<Outcome, Trouble<'a>> {
+    let text = line.text;
+    print_text(rt, format_args!("{text}\n"))?;
+    Ok(Outcome::so(line.good))
 }

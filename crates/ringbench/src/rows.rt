@@ -1,93 +1,76 @@
-// A ring, and what becomes of it step by step.
-use crate::session::{SessionError, answers_to, word};
-use automaton::{ShownLetters, TableRule, next_ring};
-use charge::{Both, Channels, ChargeKind, Pitch, Voices};
+// A ring that is run on a preset, a row a step.
+use crate::output::{print_text, refuse};
+use crate::table::{PresetPlayer, Table};
+use crate::trouble::Trouble;
+use automaton::{TableRule, next_ring};
+use charge::Voices;
+use cli::{Outcome, RingRow};
 use player::{Answer, Call};
 use preset::{Loaded, Sent};
-use std::alloc::{AllocError, Global};
-use std::io::Write;
-use std::{io, mem};
+use std::mem;
 
-// What is run: a ring, for how many steps, and whether the meters are told.
+// A ring and for how many steps it is run.
 #[derive(Clone, Copy)]
 pub(crate) struct RingRun<'a> {
     pub ring: &'a [u8],
     pub steps: usize,
-    pub meters: bool,
 }
 
-// The calls that tell the meters of every row: open or step, and then a read of each site.
-fn run_calls(alloc: Global, run: RingRun<'_>) -> Result<Vec<Call<'_>>, AllocError> {
-    let mut calls = Vec::new(alloc);
-    calls.push(Call::Open(run.ring))?;
-    push_reads(&mut calls, run.ring.len())?;
-    for _ in 0..run.steps {
-        calls.push(Call::Step)?;
-        push_reads(&mut calls, run.ring.len())?;
-    }
-    Ok(calls)
-}
-
-fn push_reads(calls: &mut Vec<Call<'_>>, sites: usize) -> Result<(), AllocError> {
-    for site in 0..sites {
-        calls.push(Call::Read { site })?;
-    }
-    Ok(())
-}
-
-// What has crossed into each site, of the answers to the calls of one row.
-fn write_crossed<C: Sent, W: Write>(out: &mut W, answers: &[Option<Answer<C>>]) -> io::Result<()> {
-    for answer in answers {
-        if let Some(Answer::Reading(reading)) = answer {
-            let crossed = word(reading.crossed);
-            write!(out, " {crossed}")?;
-        }
-    }
-    Ok(())
-}
-
-// Writes the ring as one row a step, with what has crossed into each site beside it if the meters are asked for.
-fn run_charges<C: Sent, W: Write>(
-    alloc: Global,
-    out: &mut W,
+// Prints the ring and its later rings. The rule need not keep a total.
+pub(crate) fn run_rings<'a>(
+    rt: &HostRuntime,
     preset: Loaded<'_>,
     run: RingRun<'_>,
-) -> Result<(), SessionError> {
+) -> Result<Outcome, Trouble<'a>> {
     let header = preset.header;
     let mut rule = TableRule::zero();
-    rule.fill(header.q, header.n, header.l, preset.letters)?;
-    let mut answers = Vec::new(alloc);
-    if run.meters {
-        let calls = run_calls(alloc, run)?;
-        answers = answers_to::<C>(alloc, preset, &calls, run.ring.len())?;
+    if let Err(fault) = rule.fill(header.q, header.n, header.l, preset.letters) {
+        return refuse(rt, fault);
     }
-    let mut rest = answers.as_slice();
-    let mut cells = run.ring.to_vec(alloc)?;
-    let mut later = run.ring.to_vec(alloc)?;
+    let mut cells = run.ring.to_vec(rt.alloc())?;
+    let mut later = run.ring.to_vec(rt.alloc())?;
     for _ in 0..=run.steps {
-        next_ring(&rule, &cells, &mut later)?;
-        let row = ShownLetters { letters: &cells };
-        write!(out, "{row}")?;
-        let (mine, others) = rest.split_at(run.ring.len().saturating_add(1).min(rest.len()));
-        write_crossed(out, mine)?;
-        rest = others;
-        writeln!(out)?;
+        // the next ring first, since it tells whether there is one to print
+        if let Err(fault) = next_ring(&rule, &cells, &mut later) {
+            return refuse(rt, fault);
+        }
+        let row: RingRow<'_, Voices> = RingRow {
+            cells: &cells,
+            crossed: &[],
+        };
+        print_text(rt, row)?;
         mem::swap(&mut cells, &mut later);
     }
-    Ok(())
+    Ok(Outcome::Done)
 }
 
-// Runs a ring on a preset of any kind.
-pub(crate) fn run_ring<W: Write>(
-    alloc: Global,
-    out: &mut W,
-    preset: Loaded<'_>,
+// Prints the ring and its later rings with what has crossed into each site, as a player's strips hold them.
+pub(crate) fn run_meters<'a, C: Sent>(
+    rt: &HostRuntime,
+    table: &mut Table<C>,
+    player: PresetPlayer<'_, C>,
     run: RingRun<'_>,
-) -> Result<(), SessionError> {
-    match preset.kind {
-        ChargeKind::Voices => run_charges::<Voices, W>(alloc, out, preset, run),
-        ChargeKind::Pitch => run_charges::<Pitch, W>(alloc, out, preset, run),
-        ChargeKind::Channels => run_charges::<Channels, W>(alloc, out, preset, run),
-        ChargeKind::Both => run_charges::<Both, W>(alloc, out, preset, run),
+) -> Result<Outcome, Trouble<'a>> {
+    let mut player = player;
+    let mut call = Call::Open(run.ring);
+    for _ in 0..=run.steps {
+        let (next, answer) = table.obey(player, call);
+        player = next;
+        if let Some(Answer::Refused(fault)) = answer {
+            return refuse(rt, fault);
+        }
+        let sites = run.ring.len();
+        let row = RingRow {
+            cells: front(&table.cells, sites),
+            crossed: front(&table.crossed, sites),
+        };
+        print_text(rt, row)?;
+        call = Call::Step;
     }
+    Ok(Outcome::Done)
+}
+
+// The front of a strip.
+fn front<T>(strip: &[T], len: usize) -> &[T] {
+    strip.split_at(len.min(strip.len())).0
 }

@@ -1,92 +1,73 @@
 // A script that is played on a preset. Each command is answered as it is made, so that no room is taken by how many calls
 // there are.
 use crate::output::print_text;
+use crate::table::{PresetPlayer, Table};
 use crate::trouble::Trouble;
-use automaton::{TableDensity, TableRule};
 use charge::Charge;
-use cli::{Command, Digits, Reply, ReplyText};
-use fault::limits::MOST_CELLS;
-use player::{Answer, Call, Player, PlayerOf, Reading, obey};
+use cli::{Command, Outcome, Reply, ReplyText};
+use player::{Answer, Reading};
 use preset::Sent;
 use std::alloc::{AllocError, Global};
 
-// A player of a preset's bench.
-pub(crate) type PresetPlayer<'a, C> = PlayerOf<C, TableRule<'a>, TableDensity<'a, C>>;
-
-// The strips that rings of up to so many cells are played on.
-#[derive(Drop)]
-pub(crate) struct Strips<C> {
-    pub cells: Vec<u8>,
-    spare: Vec<u8>,
-    opening: Vec<C>,
-    pub crossed: Vec<C>,
-    touched: Vec<C>,
+// What a command is answered where it is one call, or some steps.
+fn call_reply<'a, C: Charge>(
+    alloc: Global,
+    table: &mut Table<C>,
+    player: PresetPlayer<'a, C>,
+    command: Command<'_>,
+) -> Result<(PresetPlayer<'a, C>, Option<Answer<C>>), AllocError> {
+    let ring = match command {
+        Command::Open(digits) => digits.to_letters(alloc)?,
+        _ => Vec::new(alloc),
+    };
+    match (command, command.call(&ring)) {
+        (_, Some(call)) => Ok(table.obey(player, call)),
+        (Command::Steps(count), None) => Ok(table.step(player, count)),
+        (_, None) => Ok((player, None)),
+    }
 }
 
-impl<C: Charge> Strips<C> {
-    pub(crate) fn new(alloc: Global, sites: usize) -> Result<Strips<C>, AllocError> {
-        Ok(Strips {
-            cells: vec![in alloc; 0u8; sites]?,
-            spare: vec![in alloc; 0u8; sites]?,
-            opening: vec![in alloc; C::zero(); sites]?,
-            crossed: vec![in alloc; C::zero(); sites]?,
-            touched: vec![in alloc; C::zero(); sites]?,
-        })
-    }
-
-    // Answers a call.
-    pub(crate) fn obey<'a>(
-        &mut self,
-        player: PresetPlayer<'a, C>,
-        call: Call<'_>,
-    ) -> (PresetPlayer<'a, C>, Option<Answer<C>>) {
-        obey(
-            player,
-            call,
-            &mut self.cells,
-            &mut self.spare,
-            &mut self.opening,
-            &mut self.crossed,
-            &mut self.touched,
-        )
-    }
-
-    // Answers some steps: as one step where they are done, as the first that is refused, and as any where no ring is open.
-    fn steps<'a>(
-        &mut self,
-        player: PresetPlayer<'a, C>,
-        count: usize,
-    ) -> (PresetPlayer<'a, C>, Option<Answer<C>>) {
-        let mut player = player;
-        let mut answer = match &player {
-            Player::Idle(_) => None,
-            Player::Playing(_) => Some(Answer::Done),
-        };
-        for _ in 0..count {
-            if !matches!(answer, Some(Answer::Done)) {
-                break;
-            }
-            (player, answer) = self.obey(player, Call::Step);
+// Answers a command, and prints the answer.
+fn answer<'a, 't, C: Sent>(
+    rt: &HostRuntime,
+    table: &mut Table<C>,
+    player: PresetPlayer<'a, C>,
+    readings: &mut Vec<Reading<C>>,
+    command: Command<'_>,
+) -> Result<PresetPlayer<'a, C>, Trouble<'t>> {
+    match command {
+        Command::Meters => {
+            let player = table.read_all(player, readings)?;
+            let reply = Reply::meters(readings);
+            print_text(rt, ReplyText { command, reply })?;
+            Ok(player)
         }
-        (player, answer)
-    }
-
-    // Reads every site of the ring that is open: a site past its last is refused, and where none is open there is no answer.
-    fn read_all<'a>(
-        &mut self,
-        player: PresetPlayer<'a, C>,
-        readings: &mut Vec<Reading<C>>,
-    ) -> Result<PresetPlayer<'a, C>, AllocError> {
-        let mut player = player;
-        readings.clear();
-        for site in 0..MOST_CELLS {
-            let (next, answer) = self.obey(player, Call::Read { site });
-            player = next;
-            let Some(Answer::Reading(reading)) = answer else {
-                break;
-            };
-            readings.push(reading)?;
+        Command::Arc { site, len } => {
+            let player = table.read_all(player, readings)?;
+            let reply = Reply::arc(readings, site, len);
+            print_text(rt, ReplyText { command, reply })?;
+            Ok(player)
         }
-        Ok(player)
+        _ => {
+            let (player, answer) = call_reply(rt.alloc(), table, player, command)?;
+            let reply = Reply::to(command.verb(), answer);
+            print_text(rt, ReplyText { command, reply })?;
+            Ok(player)
+        }
     }
+}
+
+// Plays a script from where no ring is open.
+pub(crate) fn play<'t, C: Sent>(
+    rt: &HostRuntime,
+    table: &mut Table<C>,
+    player: PresetPlayer<'_, C>,
+    script: &[Command<'_>],
+) -> Result<Outcome, Trouble<'t>> {
+    let mut player = player;
+    let mut readings = Vec::new(rt.alloc());
+    for command in script {
+        player = answer(rt, table, player, &mut readings, *command)?;
+    }
+    Ok(Outcome::Done)
 }
