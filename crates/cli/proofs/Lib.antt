@@ -3,3 +3,4 @@ pub mod LineCuts
 pub mod Rows
 pub mod Utf8
 pub mod WordsAt
+pub mod SaidBack

@@ -1,6 +1,7 @@
 -- What a line of a script asks of a player. Assumes nothing.
-use Rattle.std.specs.Prelude.{ℕ, zero, suc, ◌-◌, min, Bool, cond, not, ◌&&◌, List, [], ◌∷◌, ◌++◌, map, length, Some, None, Option, Result, Ok, Err, ◌==◌, nat_le, codes, decimal}
+use Rattle.std.specs.Prelude.{◌≡◌, ◌<◌, ◌≤◌, ℕ, zero, suc, ◌-◌, min, Bool, cond, not, ◌&&◌, List, [], ◌∷◌, ◌++◌, map, length, Some, None, Option, Result, Ok, Err, ◌==◌, nat_le, codes, decimal}
 use Rattle.std.specs.Borrow.{Bor}
+use Rattle.std.specs.List.{AllByRecursion}
 use Rattle.std.specs.Option.{ok_or}
 use Rattle.std.specs.Str.{all_ascii_digits, bytes_eq}
 use Rattle.fault.specs.Answers.{and_then}
@@ -203,3 +204,19 @@ one_call (reads site) ring = Some (call_reads site)
 one_call (arc site len) ring = None
 one_call meters ring = None
 one_call closes ring = Some call_closes
+
+-- a command that a line can be: its ring has letters that are digits, its steps are few, its other numbers end where those of a
+-- line do
+abbrev pub Sayable : Command → Type 0
+Sayable (opens ring) = AllByRecursion (λ a. a < 10) ring
+Sayable step = Unit {0}
+Sayable (steps n) = n ≤ most_steps
+Sayable (touches site letter) = (site ≤ number_end) × (letter ≤ number_end)
+Sayable (reads site) = site ≤ number_end
+Sayable (arc site len) = (site ≤ number_end) × (len ≤ number_end)
+Sayable meters = Unit {0}
+Sayable closes = Unit {0}
+
+-- a command that is written as text is read back as that command
+abbrev pub ReadsBack : Type 0
+ReadsBack = (c : Command) → Sayable c → line_command (command_text c) ≡ Ok (Some c)

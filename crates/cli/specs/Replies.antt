@@ -1,5 +1,5 @@
 -- What the commands of a script are answered, as text. Assumes nothing.
-use Rattle.std.specs.Prelude.{◌≡◌, ℕ, ◌<◌, ◌≤◌, ◌↔◌, Bool, true, false, IsTrue, List, [], ◌∷◌, ◌++◌, length, Some, None, Option, codes, decimal}
+use Rattle.std.specs.Prelude.{◌≡◌, ℕ, ◌<◌, ◌≤◌, ◌↔◌, Bool, true, false, IsTrue, List, [], ◌++◌, length, Some, None, Option, codes, decimal}
 use Rattle.fault.specs.declared.Stop.TheVariants.{BadPosition}
 use Rattle.fault.specs.Refusals.{sentence, refusal, refused_at}
 use Rattle.preset.specs.Sending.{Sending}
@@ -14,7 +14,7 @@ use Rattle.player.specs.declared.arc.ArcReading.{ArcReading}
 use Rattle.player.specs.declared.call.Answer.{Answer}
 use Rattle.player.specs.declared.call.Answer.TheVariants as answer
 use Rattle.player.specs.declared.meters.Reading.{Reading}
-use Rattle.cli.specs.Commands.{Command, command_text, verb_of}
+use Rattle.cli.specs.Commands.{Command, command_text}
 use Rattle.cli.specs.declared.command.Verb.{Verb}
 use Rattle.cli.specs.declared.command.Verb.TheVariants as verb
 use Rattle.cli.specs.declared.reply.Reply.{Reply}

@@ -1,13 +1,12 @@
 -- What a script asks: its lines, and the commands that they are. Assumes nothing.
-use Rattle.std.specs.Prelude.{◌≡◌, ℕ, ◌+◌, cond, List, [], ◌∷◌, ◌++◌, map, Some, None, Ok, Err, Option, Result, ◌==◌, ◌≢◌, codes, decimal, vec_items}
+use Rattle.std.specs.Prelude.{◌≡◌, ℕ, ◌+◌, List, [], ◌∷◌, ◌++◌, Some, None, Ok, Err, Option, Result, ◌≢◌, codes, decimal}
 use Rattle.fault.specs.Answers.{and_then}
 use Rattle.cli.specs.Lines.{lines}
-use Rattle.cli.specs.Commands.{Command, Reading, line_command, most_steps, asked}
+use Rattle.cli.specs.Commands.{Command, Reading, line_command, most_steps}
 use Rattle.cli.specs.declared.line.Wanted.{Wanted}
 use Rattle.cli.specs.declared.line.Wanted.TheVariants.{Letters, Site, Letter, Length, Steps, FewerSteps, LineEnd, Verb}
 use Rattle.cli.specs.declared.script.ScriptError.{ScriptError}
 use Rattle.cli.specs.declared.script.ScriptError.TheVariants.{Memory, Line}
-use Rattle.cli.specs.declared.command.Command.{Command as CommandOf}
 use Rattle.cli.specs.declared.lines.Lines.{Lines}
 use Rattle.cli.specs.declared.lines.Numbered.{Numbered as NumberedOf}
 

@@ -1,6 +1,6 @@
 // A line of a script.
 ghost use Rattle.std.specs.Prelude.{◌≡◌};
-ghost use Rattle.cli.specs.Commands.{asked, read, text, at_end, number_word, few, open_command, step_command, touch_command, read_command, arc_command, of_verb, named_command, line_command, some_asked};
+ghost use Rattle.cli.specs.Commands.{asked, read, text, at_end, number_word, few, open_command, step_command, touch_command, read_command, arc_command, of_verb, named_command, line_command, some_asked, ReadsBack};
 
 use crate::command::{Command, Digits, Verb};
 use crate::count::{read_count, read_ring};
@@ -143,8 +143,10 @@ fn named<'a>(
 }
 
 // The command that a line is, unless it has no words. What follows a # is a comment.
+#[tactic(auto, using(crate::proofs::SaidBack::reads_back))]
 pub fn read_line(line: &[u8]) -> Result<Option<Command<'_>>, Wanted>
-    ensures { read some_asked result ≡ line_command line.now }
+    ensures command { read some_asked result ≡ line_command line.now }
+    ensures back { ReadsBack }
 {
     let mut words = Words {
         line: cut(Class::NotHash, line).front,

@@ -99,7 +99,10 @@ impl<C: Sent> fmt::Display for ReadingText<C> {
         let crossed = word(self.reading.crossed);
         let touched = word(self.reading.touched);
         let now = word(self.reading.now);
-        write!(f, "opening {opening}, crossed {crossed}, touched {touched}, now {now}")
+        write!(
+            f,
+            "opening {opening}, crossed {crossed}, touched {touched}, now {now}"
+        )
     }
 }
 
@@ -159,7 +162,10 @@ impl<C: Sent> fmt::Display for ArcText<C> {
         let out = word(self.meters.out);
         let touched = word(self.meters.touched);
         let now = word(self.meters.now);
-        write!(f, "opening {opening}, in {into}, out {out}, touched {touched}, now {now}")
+        write!(
+            f,
+            "opening {opening}, in {into}, out {out}, touched {touched}, now {now}"
+        )
     }
 }
 
@@ -186,7 +192,10 @@ impl<C: Sent> fmt::Display for ReplyText<'_, '_, C> {
             }
             Reply::Meters(readings) => {
                 let rows = MetersRows { readings };
-                write!(f, "{command}:\nsite\topening\tcrossed\ttouched\tnow\n{rows}")
+                write!(
+                    f,
+                    "{command}:\nsite\topening\tcrossed\ttouched\tnow\n{rows}"
+                )
             }
             Reply::Arc { meters, adds_up } => {
                 let arc = ArcText { meters };

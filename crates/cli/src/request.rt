@@ -109,10 +109,7 @@ fn steps_operand(word: Option<&[u8]>) -> Result<usize, UsageError<'_>>
 }
 
 // What is asked, unless a word follows.
-fn no_more<'a>(
-    request: Request<'a>,
-    next: Option<&'a [u8]>,
-) -> Result<Request<'a>, UsageError<'a>>
+fn no_more<'a>(request: Request<'a>, next: Option<&'a [u8]>) -> Result<Request<'a>, UsageError<'a>>
     ensures { asking request_of result ≡ no_more (text next.entry) (request_of request.entry) }
 {
     match next {
@@ -202,10 +199,7 @@ fn run<'a>(words: &'a [Vec<u8>]) -> Result<Request<'a>, UsageError<'a>>
 }
 
 // What a command asks, by the words after its name.
-fn asked_of<'a>(
-    command: Subcommand,
-    words: &'a [Vec<u8>],
-) -> Result<Request<'a>, UsageError<'a>>
+fn asked_of<'a>(command: Subcommand, words: &'a [Vec<u8>]) -> Result<Request<'a>, UsageError<'a>>
     ensures { asking request_of result ≡ asked_of command (map vec_items words.now) }
 {
     match command {

@@ -36,7 +36,7 @@ use Rattle.console.proofs.Reading.{row_is, word-is, value-is, ending-is}
 abbrev pub Of : Class → List ℕ → Type 0
 Of class w = AllByRecursion (λ b. belongs class b ≡ true) w
 
-of-append : (class : Class) (w v : List ℕ) → Of class w → Of class v → Of class (w ++ v)
+pub of-append : (class : Class) (w v : List ℕ) → Of class w → Of class v → Of class (w ++ v)
 of-append class [] v h k = k
 of-append class (b ∷ w) v h k = (h.0, of-append class w v h.1 k)
 
@@ -51,7 +51,7 @@ module _ (class : Class) (b : ℕ) (rest : List ℕ) (ends : belongs class b ≡
   after_of (x ∷ w) h = after_more class x (w ++ (b ∷ rest)) h.0 ∙ after_of w h.1
 
 -- and where nothing follows
-front_all : (class : Class) (w : List ℕ) → Of class w → front class (w ++ []) ≡ w
+pub front_all : (class : Class) (w : List ℕ) → Of class w → front class (w ++ []) ≡ w
 front_all class [] h = refl
 front_all class (x ∷ w) h = front_more class x (w ++ []) h.0 ∙ ap (λ (v : List ℕ). x ∷ v) (front_all class w h.1)
 
@@ -60,7 +60,7 @@ after_all class [] h = refl
 after_all class (x ∷ w) h = after_more class x (w ++ []) h.0 ∙ after_all class w h.1
 
 -- nothing, or a blank
-abbrev Apart : List ℕ → Type 0
+abbrev pub Apart : List ℕ → Type 0
 Apart [] = Unit {0}
 Apart (b ∷ bs) = blank b ≡ true
 
@@ -79,7 +79,7 @@ pub record Word (w : List ℕ) : Type 0 where
   pub on_line : Of NotNewline w
 
 -- the word that a line begins with
-words-front : (w rest : List ℕ) → Word w → Apart rest → words (w ++ rest) ≡ w ∷ words rest
+pub words-front : (w rest : List ℕ) → Word w → Apart rest → words (w ++ rest) ≡ w ∷ words rest
 words-front [] rest h k = absurd (omega (arith, h.some))
 words-front (x ∷ w) rest h k =
     let bs = x ∷ (w ++ rest) in
@@ -97,7 +97,7 @@ words_one : (w : List ℕ) → Word w → words (32 ∷ w) ≡ w ∷ []
 words_one w h = words-past-blank 32 w refl ∙ (ap words (sym (append-nil w)) ∙ (words-front w [] h tt ∙ ap (λ ws. w ∷ ws) words-nil))
 
 -- digits
-own : IsNumeralModel (λ ds. all_ascii_digits ds ≡ true) (value_after 0)
+pub own : IsNumeralModel (λ ds. all_ascii_digits ds ≡ true) (value_after 0)
 own = numerals_by_fold (λ ds. all_ascii_digits ds ≡ true) tells_all_ascii_digits value_after (record { empty = λ n. refl; more = λ n c cs h. refl })
 
 digit_not-blank : (b : ℕ) → is_ascii_digit b ≡ true → belongs NotBlank b ≡ true
@@ -109,7 +109,7 @@ digit_not-newline b h = grind (arith, nat_tests)
 digit_not_colon : (b : ℕ) → is_ascii_digit b ≡ true → belongs NotColon b ≡ true
 digit_not_colon b h = grind (arith, nat_tests)
 
-digits_of : (class : Class) → ((b : ℕ) → is_ascii_digit b ≡ true → belongs class b ≡ true) → (w : List ℕ) → all_ascii_digits w ≡ true → Of class w
+pub digits_of : (class : Class) → ((b : ℕ) → is_ascii_digit b ≡ true → belongs class b ≡ true) → (w : List ℕ) → all_ascii_digits w ≡ true → Of class w
 digits_of class each [] h = tt
 digits_of class each (b ∷ w) h = let p = and_parts (is_ascii_digit b) (all_ascii_digits w) h in (each b p.0, digits_of class each w p.1)
 
@@ -176,7 +176,7 @@ entry-reads Both e h =
 
 -- a row of items
 module _ {X : Type 0} (shows : X → List ℕ) where
-  spaced_apart : (xs : List X) → Apart (spaced shows xs)
+  pub spaced_apart : (xs : List X) → Apart (spaced shows xs)
   spaced_apart [] = tt
   spaced_apart (x ∷ xs) = refl
 
@@ -184,7 +184,7 @@ module _ {X : Type 0} (shows : X → List ℕ) where
   spaced_on-line [] h = tt
   spaced_on-line (x ∷ xs) h = (refl, of-append NotNewline (shows x) (spaced shows xs) h.0.on_line (spaced_on-line xs h.1))
 
-  words-spaced : (xs : List X) → AllByRecursion (λ x. Word (shows x)) xs → words (spaced shows xs) ≡ map shows xs
+  pub words-spaced : (xs : List X) → AllByRecursion (λ x. Word (shows x)) xs → words (spaced shows xs) ≡ map shows xs
   words-spaced [] h = words-nil
   words-spaced (x ∷ xs) h =
       words-past-blank 32 (shows x ++ spaced shows xs) refl
@@ -195,11 +195,11 @@ module _ {X : Type 0} (shows : X → List ℕ) where
   each-shown reads expected line (x ∷ xs) h = rw (h.0, each-shown reads expected line xs h.1)
 
 -- a part's name
-abbrev all_of : Class → List ℕ → Bool
+abbrev pub all_of : Class → List ℕ → Bool
 all_of class [] = true
 all_of class (b ∷ w) = belongs class b && all_of class w
 
-part_of : (class : Class) (w : List ℕ) → all_of class w ≡ true → Of class w
+pub part_of : (class : Class) (w : List ℕ) → all_of class w ≡ true → Of class w
 part_of class [] h = tt
 part_of class (b ∷ w) h = let p = and_parts (belongs class b) (all_of class w) h in (p.0, part_of class w p.1)
 

@@ -1,4 +1,4 @@
-use Rattle.std.proofs.Common.{sym, ◌∙◌, false-eqb}
+use Rattle.std.proofs.Common.{false-eqb}
 use Rattle.std.proofs.lemmas.List.{take_rest}
 use Rattle.cli.proofs.LineCuts.{line_ended, line_last}
 use Rattle.cli.proofs.lines.first_line.Goals as goal

@@ -12,6 +12,6 @@ loop-site-preserved g c = λ plain.
     let i = c.loop-site.site in
     let before = c.loop-site.invariant plain in
     put_two g.W.Write.write_str_gives c.args.f.now c.loop-site.f c.write.new.self
-      (rows_text row 0 (take i readings)) (row i c.reading-item.result) (rows_text row 0 (take (i + 1) readings))
-      before (c.in_ok-write.ensures.writes before.plain refl)
-      (sym (row_more row readings i c.reading-item.result c.loop-site-test.true c.reading-item.is))
+    (rows_text row 0 (take i readings)) (row i c.reading-item.result) (rows_text row 0 (take (i + 1) readings))
+    before (c.in_ok-write.ensures.writes before.plain refl)
+    (sym (row_more row readings i c.reading-item.result c.loop-site-test.true c.reading-item.is))
