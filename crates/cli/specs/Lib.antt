@@ -4,4 +4,5 @@ pub mod Outcomes
 pub mod Replies
 pub mod Requests
 pub mod Scripts
+pub mod Told
 pub mod Words

@@ -11,6 +11,7 @@ mod reply;
 mod request;
 mod script;
 mod subcommand;
+mod told;
 mod usage;
 mod verb;
 
@@ -22,4 +23,5 @@ pub use reply::{Reply, ReplyText, RingRow};
 pub use request::{Request, file_name, read_arguments};
 pub use script::{ScriptError, read_script};
 pub use subcommand::Subcommand;
+pub use told::{BreaksText, RefusalText, WrittenText};
 pub use usage::{Operand, UsageError};

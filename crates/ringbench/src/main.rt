@@ -14,7 +14,7 @@ use crate::files::{arguments, is_same_file, read_file, write_file};
 use crate::output::{complain, print_line, print_text};
 use crate::playing::{play, run};
 use crate::trouble::Trouble;
-use cli::{Outcome, Request, USAGE, file_name, read_arguments};
+use cli::{Outcome, Request, USAGE, WrittenText, file_name, read_arguments};
 use console::{encode_page, show_preset};
 use report::{compare_line, crossings_page, judge_line};
 use std::process::ExitCode;
@@ -40,8 +40,13 @@ fn encode<'a>(rt: &HostRuntime, from: &'a str, to: &'a str) -> Result<Outcome, T
         Err(error) => return Err(Trouble::text(from, error)),
     };
     write_file(rt, to, &bytes)?;
-    let count = bytes.len();
-    print_text(rt, format_args!("{to}: {count} bytes\n"))?;
+    print_text(
+        rt,
+        WrittenText {
+            path: to,
+            bytes: bytes.len(),
+        },
+    )?;
     Ok(Outcome::Done)
 }
 

@@ -1,6 +1,6 @@
 // What is printed.
 use crate::trouble::Trouble;
-use cli::Outcome;
+use cli::{Outcome, RefusalText};
 use console::ShowError;
 use fault::Fault;
 use report::Line;
@@ -18,9 +18,7 @@ pub(crate) fn print_text<'a>(
 
 // Prints a refusal.
 pub(crate) fn refuse<'a>(rt: &HostRuntime, fault: Fault) -> Result<Outcome, Trouble<'a>> {
-    let code = fault.stop.code();
-    let place = fault.place;
-    print_text(rt, format_args!("refused {code} {place}\n{fault}\n"))?;
+    print_text(rt, RefusalText { fault })?;
     Ok(Outcome::Undone)
 }
 

@@ -7,7 +7,7 @@ use crate::table::Table;
 use crate::trouble::Trouble;
 use bench::Verdict;
 use charge::{Both, Channels, ChargeKind, Pitch, Voices};
-use cli::{Command, Digits, Outcome, read_script};
+use cli::{BreaksText, Command, Digits, Outcome, read_script};
 use criterion::MOST_SHOWN;
 use fault::limits::MOST_WORDS;
 use player::Player;
@@ -41,7 +41,7 @@ fn play_charges<'a, C: Sent>(
     let player = match draft.judge(&mut crossings, &mut shown) {
         Ok(Verdict::Holds(bench)) => Player::Idle(bench),
         Ok(Verdict::Breaks(_, _)) => {
-            print_text(rt, format_args!("{path}\tbreaks\n"))?;
+            print_text(rt, BreaksText { path })?;
             return Ok(Outcome::Undone);
         }
         Err(refused) => return refuse(rt, refused.fault),
