@@ -68,14 +68,23 @@ fn play_kind<'a>(
     }
 }
 
-// Plays the script on standard input on a preset.
-pub(crate) fn play<'a>(rt: &HostRuntime, path: &'a str) -> Result<Outcome, Trouble<'a>> {
-    let bytes = read_file(rt, path)?;
+// Plays the script on standard input on a preset that was read.
+fn play_input<'a>(
+    rt: &HostRuntime,
+    path: &str,
+    preset: Loaded<'_>,
+) -> Result<Outcome, Trouble<'a>> {
     let text = read_input(rt)?;
     let script = read_script(rt.alloc(), &text)?;
+    play_kind(rt, path, preset, Playable::Script(&script))
+}
+
+// Plays the script on standard input on a preset. It is not read where the preset is refused.
+pub(crate) fn play<'a>(rt: &HostRuntime, path: &'a str) -> Result<Outcome, Trouble<'a>> {
+    let bytes = read_file(rt, path)?;
     let mut strips = Strips::new();
     match strips.read(&bytes) {
-        Ok(preset) => play_kind(rt, path, preset, Playable::Script(&script)),
+        Ok(preset) => play_input(rt, path, preset),
         Err(fault) => refuse(rt, fault),
     }
 }

@@ -9,8 +9,8 @@ use player::{Answer, Reading};
 use preset::Sent;
 use std::alloc::{AllocError, Global};
 
-// What a command is answered where it is one call, or some steps.
-fn call_reply<'a, C: Charge>(
+// Makes the calls of a command that is one call, or some steps.
+fn make_calls<'a, C: Charge>(
     alloc: Global,
     table: &mut Table<C>,
     player: PresetPlayer<'a, C>,
@@ -49,7 +49,7 @@ fn answer<'a, 't, C: Sent>(
             Ok(player)
         }
         _ => {
-            let (player, answer) = call_reply(rt.alloc(), table, player, command)?;
+            let (player, answer) = make_calls(rt.alloc(), table, player, command)?;
             let reply = Reply::to(command.verb(), answer);
             print_text(rt, ReplyText { command, reply })?;
             Ok(player)
