@@ -65,8 +65,5 @@ parsed_at start =
 abbrev pub text_start : List ℕ → Place
 text_start text = record { passed = 0; text = text }
 
-abbrev pub sizes_parsed : List ℕ → Reading Sizes
-sizes_parsed text = sizes_at (text_start text)
-
 abbrev pub parsed : List ℕ → Reading Content
 parsed text = parsed_at (text_start text)
