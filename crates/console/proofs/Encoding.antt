@@ -1,44 +1,42 @@
 -- What a page is encoded to. Assumes nothing.
-use Rattle.std.proofs.Common.{◌≡◌, ℕ, List, length, take, drop, Ok, Err, Result, sym, refl, ap, ◌∙◌, arith}
-use Rattle.std.proofs.lemmas.List.{take_at}
+use Rattle.std.proofs.Common.{◌≡◌, ℕ, ◌^◌, List, length, OnSome, Some, None, Ok, Err, Option, Result, refl, ap, ap₂}
+use Rattle.fault.specs.Answers.{and_then}
+use Rattle.fault.specs.Limits.{most_window, most_width}
 use Rattle.fault.specs.Refusals.{Refusal}
-use Rattle.fault.specs.Answers.{and_then, front, strip_after}
-use Rattle.preset.specs.Writes.{checked, preset_bytes, fitting, writing, written}
-use Rattle.console.specs.Encodes.{Encoding, from_writer, counts_tested, bytes_of, refused, most_preset}
+use Rattle.preset.specs.declared.entry.Entry.{Entry}
+use Rattle.preset.specs.declared.header.Header.{Header}
+use Rattle.preset.specs.Presets.{Head, Preset, counted}
+use Rattle.preset.specs.Sizes.{Sized}
+use Rattle.preset.specs.Writes.{head_checked, checked, preset_bytes, fitting, writing}
+use Rattle.preset.proofs.Heads.{letters_few, entries_few}
+use Rattle.preset.proofs.PresetLaws.{head_from, counted-some}
+use Rattle.console.specs.Encodes.{from_writer, miscounted, bytes_of, most_preset}
 use Rattle.console.specs.Grammar.{Content}
 
--- the writer's answer, over a strip that every preset fits
-writer_of : Content → Result (List ℕ) Refusal
-writer_of d = and_then (checked d.header d.letters d.entries) (λ p. fitting most_preset (preset_bytes p))
+-- a header that may be written counts letters and entries
+module _ (h : Header) (s : Sized h) where
+  letters-counted : counted most_window h.q h.n ≡ Some (h.q ^ h.n)
+  letters-counted = counted-some most_window h.q h.n (h.q ^ h.n) s.letters_some s.letters_most s.window_some s.window (letters_few h s) refl
 
-module _ (d : Content) (out : List ℕ) (room : length out ≡ most_preset) (counted : Ok tt ≡ counts_tested d) where
-  writing-is : writing d.header d.letters d.entries out ≡ writer_of d
-  unfolding writer_of
-  writing-is = ap (λ (n : ℕ). and_then (checked d.header d.letters d.entries) (λ p. fitting n (preset_bytes p))) room
+  entries-counted : counted most_width h.q h.k ≡ Some (h.q ^ h.k)
+  entries-counted = counted-some most_width h.q h.k (h.q ^ h.k) s.letters_some s.letters_most s.width_some s.width (entries_few h s) refl
 
-  bytes_are : bytes_of d ≡ from_writer d.lines (writing d.header d.letters d.entries out)
-  unfolding writer_of
-  bytes_are = rw (sym counted) (ap (from_writer d.lines) (sym writing-is))
+-- a list that is the items where the header counts some, as many as there are, and else any list
+abbrev pub Serves : {X : Type 0} → Option ℕ → List X → List X → Type 0
+Serves count items xs = (miscounted count (length items) ≡ None) × OnSome count (xs ≡ items)
 
-  pub draft-refused : (f : Refusal) → Err f ≡ written (writing d.header d.letters d.entries out) → ◌≡◌ {A = Encoding (List ℕ)} (Err (refused d.lines f)) (bytes_of d)
-  draft-refused f e = go (writing d.header d.letters d.entries out) refl
+-- the writer answers the same of such lists
+module _ (d : Content) (ls : List ℕ) (es : List Entry) (letters : Serves (counted most_window d.header.q d.header.n) d.letters ls) (entries : Serves (counted most_width d.header.q d.header.k) d.entries es) where
+  same_checked : checked d.header ls es ≡ checked d.header d.letters d.entries
+  same_checked = go (head_checked d.header) refl
     where
-      go : (r : Result (List ℕ) Refusal) → writing d.header d.letters d.entries out ≡ r → ◌≡◌ {A = Encoding (List ℕ)} (Err (refused d.lines f)) (bytes_of d)
-      go (Ok bs) i = let j : ◌≡◌ {A = Result ℕ Refusal} (Err f) (Ok (length bs)) = e ∙ ap written i in let z : ◌≡◌ {A = ℕ} 0 1 = cc in absurd (omega arith)
-      go (Err g) i =
-          let j : ◌≡◌ {A = Result ℕ Refusal} (Err f) (Err g) = e ∙ ap written i in
-          let k : f ≡ g = cc in
-          ap (λ (x : Refusal). Err (refused d.lines x)) k ∙ sym (bytes_are ∙ ap (from_writer d.lines) i)
+      go : (r : Result Head Refusal) → head_checked d.header ≡ r → checked d.header ls es ≡ checked d.header d.letters d.entries
+      go (Err f) e = rw e
+      go (Ok head) e =
+          let s = (head_from d.header head e).2 in
+          ap₂ (checked d.header) (rw (letters-counted d.header s) at letters.1) (rw (entries-counted d.header s) at entries.1)
 
-  -- the front of the strip is what was encoded
-  pub draft-written : (len : ℕ) (after : List ℕ) → Ok len ≡ written (writing d.header d.letters d.entries out)
-      → after ≡ strip_after (λ bytes. bytes) out (writing d.header d.letters d.entries out) → Ok (take len after) ≡ bytes_of d
-  draft-written len after e s = go (writing d.header d.letters d.entries out) refl
-    where
-      go : (r : Result (List ℕ) Refusal) → writing d.header d.letters d.entries out ≡ r → Ok (take len after) ≡ bytes_of d
-      go (Ok bs) i =
-          let j : ◌≡◌ {A = Result ℕ Refusal} (Ok len) (Ok (length bs)) = e ∙ ap written i in
-          let k : len ≡ length bs = cc in
-          let a : after ≡ front bs out = s ∙ ap (strip_after (λ bytes. bytes) out) i in
-          ap (λ (xs : List ℕ). Ok xs) (ap (take len) a ∙ take_at bs (drop (length bs) out) len (sym k)) ∙ sym (bytes_are ∙ ap (from_writer d.lines) i)
-      go (Err g) i = let j : ◌≡◌ {A = Result ℕ Refusal} (Ok len) (Err g) = e ∙ ap written i in let z : ◌≡◌ {A = ℕ} 0 1 = cc in absurd (omega arith)
+  pub bytes_are : (out : List ℕ) → length out ≡ most_preset → from_writer d.lines (writing d.header ls es out) ≡ bytes_of d
+  bytes_are out room =
+      let same = ap₂ (λ (r : Result Preset Refusal) (n : ℕ). and_then r (λ p. fitting n (preset_bytes p))) same_checked room in
+      rw (letters.0, entries.0) (ap (from_writer d.lines) same)

@@ -1,5 +1,5 @@
 -- What a page says, one step after another. Assumes nothing.
-use Rattle.std.proofs.Common.{◌≡◌, ℕ, ◌+◌, true, false, eqb, List, [], ◌∷◌, ◌++◌, length, IsErrAnd, Some, None, Ok, Err, Option, sym, refl, ap, ◌∙◌, append_assoc, append-nil}
+use Rattle.std.proofs.Common.{◌≡◌, ℕ, ◌+◌, true, false, eqb, List, [], ◌∷◌, length, filter_map, IsErrAnd, Some, None, Ok, Err, Option, sym, refl, ap, ◌∙◌}
 use Rattle.std.specs.Borrow.{Bor}
 use Rattle.std.specs.Option.{ok_or, option_map}
 use Rattle.std.specs.Str.{bytes_eq}
@@ -111,21 +111,26 @@ module _ (place p : Place) (is : p ≡ next place) where
           let here : Ok tt ≡ text_end q = rw e in
           here ∙ (ap text_end then ∙ (then_ok (λ r. text_end (next r.after)) has ∙ ending_bytes))
 
--- items before others that are read
-abbrev pub ahead : {X : Type 0} → List X → Reading (List X) → Reading (List X)
-ahead xs s = and_then s (λ ys. Ok (xs ++ ys))
+-- each word is an item, and nothing is kept of it
+abbrev pub passes : {X : Type 0} → (List ℕ → Option X) → Expected → ℕ → List (List ℕ) → Reading (Unit {0})
+passes reads expected line [] = Ok tt
+passes reads expected line (w ∷ ws) = and_then (ok_or (reads w) (Wrong line expected)) (λ _. passes reads expected line ws)
 
-ahead-ahead : {X : Type 0} (xs ys : List X) (s : Reading (List X)) → ahead xs (ahead ys s) ≡ ahead (xs ++ ys) s
-ahead-ahead xs ys (Ok zs) = rw append_assoc
-ahead-ahead xs ys (Err e) = refl
+-- where each word is an item, the items are those that the words write
+module _ {X : Type 0} (reads : List ℕ → Option X) (expected : Expected) (line : ℕ) where
+  kept : List (List ℕ) → Reading (List X)
+  kept ws = and_then (passes reads expected line ws) (λ _. Ok (filter_map reads ws))
 
--- a word more of a row of items
-module _ {X : Type 0} (reads : List ℕ → Option X) (expected : Expected) (line : ℕ) (xs : List X) where
-  pub each_more : (w : List ℕ) (ws : List (List ℕ)) (x : X) → Ok x ≡ ok_or (reads w) (Wrong line expected) → ahead xs (each reads expected line (w ∷ ws)) ≡ ahead (xs ++ (x ∷ [])) (each reads expected line ws)
-  each_more w ws x e = rw (sym e) (ahead-ahead xs (x ∷ []) (each reads expected line ws))
+  one-more : (x : X) (xs : List X) (r : Reading (Unit {0})) → and_then (and_then r (λ _. Ok xs)) (λ ys. Ok (x ∷ ys)) ≡ and_then r (λ _. Ok (x ∷ xs))
+  one-more x xs (Ok u) = refl
+  one-more x xs (Err f) = refl
 
-  pub each-stop : (w : List ℕ) (ws : List (List ℕ)) (f : TextError) → Err f ≡ ok_or (reads w) (Wrong line expected) → ahead xs (each reads expected line (w ∷ ws)) ≡ Err f
-  each-stop w ws f e = rw (sym e)
+  first-item : (w : List ℕ) (ws : List (List ℕ)) (o : Option X) → reads w ≡ o → each reads expected line ws ≡ kept ws → each reads expected line (w ∷ ws) ≡ kept (w ∷ ws)
+  unfolding kept
+  first-item w ws None is e = rw is
+  first-item w ws (Some x) is e = rw (is, e) (one-more x (filter_map reads ws) (passes reads expected line ws))
 
-  pub each-done : ahead xs (each reads expected line []) ≡ Ok xs
-  each-done = rw append-nil
+  pub each_is : (ws : List (List ℕ)) → each reads expected line ws ≡ and_then (passes reads expected line ws) (λ _. Ok (filter_map reads ws))
+  unfolding kept
+  each_is [] = refl
+  each_is (w ∷ ws) = first-item w ws (reads w) refl (each_is ws)

@@ -1,5 +1,5 @@
 -- A text that is a page, and the preset that it writes. Assumes nothing.
-use Rattle.std.specs.Prelude.{ℕ, List, Ok, vec_items}
+use Rattle.std.specs.Prelude.{ℕ, List, filter_map, Ok, vec_items}
 use Rattle.charge.specs.Numbers.{number_of}
 use Rattle.charge.specs.declared.kind.ChargeKind.{ChargeKind}
 use Rattle.fault.specs.Answers.{and_then}
@@ -7,10 +7,11 @@ use Rattle.preset.specs.declared.entry.Entry.{Entry}
 use Rattle.preset.specs.declared.header.Header.{Header}
 use Rattle.console.specs.Forms.{letter, entry}
 use Rattle.console.specs.Rows.{Row, Reading, kind_row, number_row, items_row, ending}
-use Rattle.console.specs.Words.{Place}
+use Rattle.console.specs.Words.{Place, words_left}
 use Rattle.console.specs.declared.draft.Draft.{Draft}
 use Rattle.console.specs.declared.error.Expected.TheVariants as expected
 use Rattle.console.specs.declared.lines.Lines.{Lines}
+use Rattle.console.specs.declared.outline.Outline.{Outline}
 use Rattle.console.specs.declared.part.Part.TheVariants.{Letters, Window, Reach, Width, Rule, Density}
 
 -- What a page holds, and the lines that its parts stand on.
@@ -23,6 +24,10 @@ pub record Content : Type 0 where
 
 abbrev pub content : Draft → Content
 content d = record { kind = d.kind; header = d.header; letters = vec_items d.letters; entries = vec_items d.entries; lines = d.lines }
+
+-- the same of an outline, whose rows are the words that write the items
+abbrev pub outlined : Outline → Content
+outlined o = record { kind = o.kind; header = o.header; letters = filter_map letter (words_left o.letters); entries = filter_map (entry o.kind) (words_left o.entries); lines = o.lines }
 
 -- the lines of the kind and the sizes
 pub record Sizes : Type 0 where
@@ -59,9 +64,6 @@ parsed_at start =
 -- the text from its first line on
 abbrev pub text_start : List ℕ → Place
 text_start text = record { passed = 0; text = text }
-
-abbrev pub sizes_parsed : List ℕ → Reading Sizes
-sizes_parsed text = sizes_at (text_start text)
 
 abbrev pub parsed : List ℕ → Reading Content
 parsed text = parsed_at (text_start text)

@@ -1,16 +1,20 @@
 // A page turned into a preset's bytes.
-ghost use Rattle.std.specs.Prelude.{◌≡◌, Some, Err, IfErr, vec_items};
-ghost use Rattle.console.specs.Encodes.{answered, Answered, from_text, miscounted, counts_tested, bytes_of, encoded, encode_sentence};
-ghost use Rattle.console.specs.Grammar.{content, sizes_parsed};
+ghost use Rattle.std.specs.Prelude.{◌≡◌, ◌≢◌, ◌≤◌, Some, None, Err, IfSome, IfErr, MatchBool, MatchResult, OnSome, filter_map, length, vec_items};
+ghost use Rattle.preset.specs.Writes.{writing};
+ghost use Rattle.console.specs.Encodes.{most_preset, answered, Answered, from_writer, miscounted, bytes_of, encoded, encode_sentence};
+ghost use Rattle.console.specs.Grammar.{outlined};
+ghost use Rattle.console.specs.Words.{words_left};
 ghost use Rattle.console.specs.declared.encode.EncodeError.TheVariants.{Text};
 ghost use Rattle.console.specs.declared.error.TextError.TheVariants.{Memory};
 
-use crate::draft::Draft;
 use crate::error::TextError;
+use crate::item::Item;
 use crate::lines::{Lines, line_of_refusal};
-use crate::reader::parse;
+use crate::outline::{Outline, read_outline};
+use crate::words::Words;
+use charge::ChargeKind;
 use fault::Fault;
-use preset::write_preset;
+use preset::{Entry, Header, STRIP, write_preset};
 use std::alloc::{AllocError, Global};
 use std::error::Error;
 use std::fmt;
@@ -28,60 +32,116 @@ pub enum EncodeError {
     Refused { lines: Lines, fault: Fault },
 }
 
-// The count that is asked for, if one is asked for and there are not so many.
-fn miscount(count: Option<usize>, have: usize) -> Option<usize>
-    ensures { result ≡ miscounted count have }
+// Fills a strip with the items that words write, and answers whether there are as many as it is long.
+fn fill<T: Item>(kind: ChargeKind, words: Words<'_>, strip: &mut [T]) -> bool
+    ensures { let items = filter_map (T.form.reads kind) (words_left words.entry) in
+        MatchBool result (strip.new ≡ items) (length strip.old ≢ length items) }
 {
-    match count {
-        Some(count) if count != have => Some(count),
-        _ => None,
+    let mut filled = 0;
+    for word in words {
+        if let Some(item) = T::from_word(kind, word) {
+            if filled == strip.len() {
+                return false;
+            }
+            strip[filled] = item;
+            filled += 1;
+        }
+    }
+    filled == strip.len()
+}
+
+// The items that words write, in front of a strip, if there are as many as a header counts; else that count. A header
+// that counts none is refused whatever the items are, so none are taken.
+fn counted_items<'s, T: Item>(
+    count: Option<usize>,
+    kind: ChargeKind,
+    words: Words<'_>,
+    strip: &'s mut [T],
+) -> Result<&'s [T], usize>
+    requires { IfSome count (λ n. n ≤ length strip.old) }
+    ensures { let items = filter_map (T.form.reads kind) (words_left words.entry) in
+        MatchResult result
+        (λ s. (miscounted count (length items) ≡ None) × OnSome count (s.now ≡ items))
+        (λ n. miscounted count (length items) ≡ Some n) }
+{
+    let Some(count) = count else {
+        return Ok(&[]);
+    };
+    let front = &mut strip[..count];
+    if fill(kind, words, front) {
+        Ok(front)
+    } else {
+        Err(count)
     }
 }
 
-// The rule has a letter, and the density an entry, for each word.
-fn check_counts(draft: &Draft) -> Result<(), EncodeError>
-    ensures { answered (λ x. x) result ≡ counts_tested (content draft.now) }
+// The bytes that the writer writes, in front of a strip, or its refusal with the lines of the page.
+fn write_front<'o>(
+    header: Header,
+    letters: &[u8],
+    entries: &[Entry],
+    lines: Lines,
+    out: &'o mut [u8],
+) -> Result<&'o [u8], EncodeError>
+    ensures { answered (λ s. s.now) result
+        ≡ from_writer lines (writing header letters.now entries.now out.old) }
 {
-    if let Some(count) = miscount(draft.header.letter_count(), draft.letters.len()) {
-        return Err(EncodeError::Letters {
-            line: draft.lines.rule,
-            count,
-        });
-    }
-    if let Some(count) = miscount(draft.header.entry_count(), draft.entries.len()) {
-        return Err(EncodeError::Entries {
-            line: draft.lines.density,
-            count,
-        });
-    }
-    Ok(())
-}
-
-// The bytes of what a page holds, written to a strip that every preset fits. It is on the stack, so that no more is
-// taken from the heap than the preset takes.
-fn encode_draft(alloc: Global, draft: &Draft) -> Result<Vec<u8>, EncodeError>
-    ensures { Answered (answered vec_items result) (bytes_of (content draft.now)) }
-{
-    check_counts(draft)?;
-    let mut out = [0; MOST_PRESET];
-    match write_preset(draft.header, &draft.letters, &draft.entries, &mut out) {
-        Ok(len) => Ok(Vec::from_slice(alloc, &out[..len])?),
-        Err(fault) => Err(EncodeError::Refused {
-            lines: draft.lines,
-            fault,
-        }),
+    match write_preset(header, letters, entries, out) {
+        Ok(len) => Ok(&out[..len]),
+        Err(fault) => Err(EncodeError::Refused { lines, fault }),
     }
 }
 
-// The bytes of the preset that a text writes.
+// The bytes of what a page holds, in front of a strip that every preset fits. The letters and the entries stand on the
+// stack.
+fn encode_outline<'o>(page: Outline<'_>, out: &'o mut [u8]) -> Result<&'o [u8], EncodeError>
+    requires { length out.old ≡ most_preset }
+    ensures { answered (λ s. s.now) result ≡ bytes_of (outlined page.entry) }
+{
+    let Outline {
+        kind,
+        header,
+        letters,
+        entries,
+        lines,
+    } = page;
+    let mut letter_strip = [0; STRIP];
+    let letters = match counted_items(header.letter_count(), kind, letters, &mut letter_strip) {
+        Ok(letters) => letters,
+        Err(count) => {
+            return Err(EncodeError::Letters {
+                line: lines.rule,
+                count,
+            });
+        }
+    };
+    let mut entry_strip = [Entry {
+        signed: 0,
+        plain: 0,
+    }; STRIP];
+    let entries = match counted_items(header.entry_count(), kind, entries, &mut entry_strip) {
+        Ok(entries) => entries,
+        Err(count) => {
+            return Err(EncodeError::Entries {
+                line: lines.density,
+                count,
+            });
+        }
+    };
+    write_front(header, letters, entries, lines, out)
+}
+
+// The bytes of the preset that a text writes. They are written to the stack first, so that no more is taken from the
+// heap than they take, and nothing where there is no preset.
 pub fn encode_page(alloc: Global, text: &[u8]) -> Result<Vec<u8>, EncodeError>
     ensures bytes { Answered (answered vec_items result) (encoded text.now) }
-    // No memory is needed to tell what is wrong with the kind or the sizes.
-    ensures sizes { IfErr (sizes_parsed text.now)
-        (λ e. answered vec_items result ≡ from_text (Err e)) }
+    // No memory is needed to tell why a text gives no preset.
+    ensures wrong { IfErr (encoded text.now) (λ e. answered vec_items result ≡ Err e) }
 {
-    let draft = parse(alloc, text)?;
-    encode_draft(alloc, &draft)
+    let page = read_outline(text)?;
+    let mut out = [0; MOST_PRESET];
+    let bytes = encode_outline(page, &mut out)?;
+    Ok(Vec::from_slice(alloc, bytes)?)
 }
 
 impl Error for EncodeError {}

@@ -9,6 +9,7 @@ mod item;
 mod kind;
 mod lines;
 mod number;
+mod outline;
 mod part;
 mod place;
 mod reader;

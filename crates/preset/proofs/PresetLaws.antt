@@ -89,7 +89,7 @@ fits_to ok stop i [] u = refl
 fits_to ok stop i (x ∷ xs) u = rw u.0 (fits_to ok stop (i + 1) xs u.1)
 
 -- a header that passed, with the kind that it names
-head_from : (h : Header) (head : Head) → head_checked h ≡ Ok head → (head.header ≡ h) × (kind_of h.kind ≡ Some head.kind) × Sized h
+pub head_from : (h : Header) (head : Head) → head_checked h ≡ Ok head → (head.header ≡ h) × (kind_of h.kind ≡ Some head.kind) × Sized h
 head_from h head e =
     let s = and_ok (ok_or (kind_of h.kind) (refused_at UnknownKind 0)) (λ kind. and_then (tested (size_tests h)) (λ _. Ok (record { kind = kind; header = h }))) head e in
     let t = and_ok (tested (size_tests h)) (λ _. Ok (record { kind = s.0; header = h })) head s.2 in
@@ -313,7 +313,7 @@ whole-so bs p u e =
 pub one_spelling : OneSpelling
 one_spelling bs cs p u v e f = (whole-so bs p u e).1 ∙ sym (whole-so cs p v f).1
 
-counted-some : (most q m count : ℕ) → 2 ≤ q → q ≤ 8 → 1 ≤ m → m ≤ most → q ^ m ≤ most_words → count ≡ q ^ m → counted most q m ≡ Some count
+pub counted-some : (most q m count : ℕ) → 2 ≤ q → q ≤ 8 → 1 ≤ m → m ≤ most → q ^ m ≤ most_words → count ≡ q ^ m → counted most q m ≡ Some count
 counted-some most q m count q₁ q₂ m₁ m₂ few e =
     rw (le-leb 1 m m₁, lt-ltb m (suc most) (omega arith), le-leb 2 q q₁, lt-ltb q 9 (omega arith), le-leb (q ^ m) most_words few, e)
 
