@@ -3,7 +3,7 @@ use Rattle.std.specs.Prelude.{◌≡◌, ◌<◌, ◌≤◌, ℕ, zero, suc, ◌
 use Rattle.std.specs.Borrow.{Bor}
 use Rattle.std.specs.List.{AllByRecursion}
 use Rattle.std.specs.Option.{ok_or}
-use Rattle.std.specs.Str.{all_ascii_digits, bytes_eq}
+use Rattle.std.specs.Str.{all_ascii_digits}
 use Rattle.fault.specs.Answers.{and_then}
 use Rattle.console.specs.Numbers.{number_end, number}
 use Rattle.automaton.specs.Shown.{digits}
@@ -12,6 +12,7 @@ use Rattle.console.specs.Words.{front, words}
 use Rattle.console.specs.declared.words.Class.TheVariants.{NotHash}
 use Rattle.player.specs.Calls.{Call}
 use Rattle.player.specs.Calls.Call.{opens as call_opens, touches as call_touches, steps as call_steps, reads as call_reads, closes as call_closes}
+use Rattle.cli.specs.Names.{named}
 use Rattle.cli.specs.declared.command.Command.{Command as CommandOf}
 use Rattle.cli.specs.declared.command.Command.TheVariants as command
 use Rattle.cli.specs.declared.command.Verb.{Verb}
@@ -145,14 +146,8 @@ verb_text verb.Meters = codes "meters"
 verb_text verb.Close = codes "close"
 
 abbrev pub named_verb : List ℕ → Option Verb
-named_verb w =
-    cond (bytes_eq w (verb_text verb.Open)) (Some verb.Open)
-    (cond (bytes_eq w (verb_text verb.Step)) (Some verb.Step)
-    (cond (bytes_eq w (verb_text verb.Touch)) (Some verb.Touch)
-    (cond (bytes_eq w (verb_text verb.Read)) (Some verb.Read)
-    (cond (bytes_eq w (verb_text verb.Arc)) (Some verb.Arc)
-    (cond (bytes_eq w (verb_text verb.Meters)) (Some verb.Meters)
-    (cond (bytes_eq w (verb_text verb.Close)) (Some verb.Close) None))))))
+named_verb =
+    named verb_text (verb.Open ∷ verb.Step ∷ verb.Touch ∷ verb.Read ∷ verb.Arc ∷ verb.Meters ∷ verb.Close ∷ [])
 
 -- the command that words are, of which the first is its name
 abbrev pub named_command : Option (List ℕ) → Option (List ℕ) → Option (List ℕ) → Option (List ℕ) → Reading (Option Command)

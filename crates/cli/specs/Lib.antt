@@ -1,5 +1,6 @@
 pub mod Commands
 pub mod Lines
+pub mod Names
 pub mod Outcomes
 pub mod Replies
 pub mod Requests

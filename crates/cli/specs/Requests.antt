@@ -5,6 +5,7 @@ use Rattle.std.specs.Str.{bytes_eq}
 use Rattle.std.specs.Str.Lossy.{utf8_valid_len}
 use Rattle.fault.specs.Answers.{and_then}
 use Rattle.cli.specs.Commands.{count, ring, most_steps, word_at, letters}
+use Rattle.cli.specs.Names.{named}
 use Rattle.cli.specs.Words.{shown_word}
 use Rattle.cli.specs.declared.request.Request.{Request as RequestOf}
 use Rattle.cli.specs.declared.request.Request.TheVariants as request
@@ -120,15 +121,9 @@ subcommand_text verb.Play = codes "play"
 subcommand_text verb.Run = codes "run"
 
 abbrev pub named_subcommand : List ℕ → Option Subcommand
-named_subcommand w =
-    cond (bytes_eq w (subcommand_text verb.Help)) (Some verb.Help)
-    (cond (bytes_eq w (subcommand_text verb.Show)) (Some verb.Show)
-    (cond (bytes_eq w (subcommand_text verb.Encode)) (Some verb.Encode)
-    (cond (bytes_eq w (subcommand_text verb.Judge)) (Some verb.Judge)
-    (cond (bytes_eq w (subcommand_text verb.Crossings)) (Some verb.Crossings)
-    (cond (bytes_eq w (subcommand_text verb.Compare)) (Some verb.Compare)
-    (cond (bytes_eq w (subcommand_text verb.Play)) (Some verb.Play)
-    (cond (bytes_eq w (subcommand_text verb.Run)) (Some verb.Run) None)))))))
+named_subcommand =
+    named subcommand_text
+    (verb.Help ∷ verb.Show ∷ verb.Encode ∷ verb.Judge ∷ verb.Crossings ∷ verb.Compare ∷ verb.Play ∷ verb.Run ∷ [])
 
 -- the name of a command
 abbrev pub command_named : Option (List ℕ) → Asking Subcommand

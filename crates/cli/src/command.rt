@@ -5,6 +5,7 @@ ghost use Rattle.player.specs.Answers.{asked as call_asked};
 ghost use Rattle.automaton.specs.Shown.{digits};
 ghost use Rattle.cli.specs.Commands.{asked, letters, command_text, verb_of, one_call};
 
+use crate::names::Named;
 use player::Call;
 use std::alloc::{AllocError, Global};
 use std::fmt;

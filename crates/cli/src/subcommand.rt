@@ -2,7 +2,7 @@
 ghost use Rattle.std.specs.Prelude.{◌≡◌};
 ghost use Rattle.cli.specs.Requests.{subcommand_text, named_subcommand};
 
-use console::is_text;
+use crate::names::{Named, find_named};
 
 // What sort of request the arguments are.
 #[derive(Clone, Copy, PartialEq, Eq, Debug)]
@@ -17,11 +17,21 @@ pub enum Subcommand {
     Run,
 }
 
-impl Subcommand {
-    // The word that asks for it.
-    pub fn name(self) -> &'static str
-        ensures { result.now ≡ subcommand_text self }
-    {
+const SUBCOMMANDS: [Subcommand; 8] = [
+    Subcommand::Help,
+    Subcommand::Show,
+    Subcommand::Encode,
+    Subcommand::Judge,
+    Subcommand::Crossings,
+    Subcommand::Compare,
+    Subcommand::Play,
+    Subcommand::Run,
+];
+
+impl Named for Subcommand {
+    ghost text = { subcommand_text };
+
+    fn name(self) -> &'static str {
         match self {
             Subcommand::Help => "help",
             Subcommand::Show => "show",
@@ -39,23 +49,5 @@ impl Subcommand {
 pub(crate) fn subcommand_named(word: &[u8]) -> Option<Subcommand>
     ensures { result ≡ named_subcommand word.now }
 {
-    if is_text(word, Subcommand::Help.name()) {
-        Some(Subcommand::Help)
-    } else if is_text(word, Subcommand::Show.name()) {
-        Some(Subcommand::Show)
-    } else if is_text(word, Subcommand::Encode.name()) {
-        Some(Subcommand::Encode)
-    } else if is_text(word, Subcommand::Judge.name()) {
-        Some(Subcommand::Judge)
-    } else if is_text(word, Subcommand::Crossings.name()) {
-        Some(Subcommand::Crossings)
-    } else if is_text(word, Subcommand::Compare.name()) {
-        Some(Subcommand::Compare)
-    } else if is_text(word, Subcommand::Play.name()) {
-        Some(Subcommand::Play)
-    } else if is_text(word, Subcommand::Run.name()) {
-        Some(Subcommand::Run)
-    } else {
-        None
-    }
+    find_named(&SUBCOMMANDS, word)
 }

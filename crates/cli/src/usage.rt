@@ -3,6 +3,7 @@ ghost use Rattle.std.specs.Prelude.{◌≡◌, ◌<◌, Some};
 ghost use Rattle.cli.specs.Words.{hex_digit, byte_text, shown_word};
 
 use crate::line::MOST_STEPS;
+use crate::names::Named;
 use std::error::Error;
 use std::fmt;
 
@@ -15,13 +16,12 @@ pub enum Operand {
     Steps,
 }
 
-impl Operand {
+impl Named for Operand {
     ghost use Rattle.cli.specs.Requests.{operand_text};
 
-    // The word that stands for it in the page of help.
-    pub fn name(self) -> &'static str
-        ensures { result.now ≡ operand_text self }
-    {
+    ghost text = { operand_text };
+
+    fn name(self) -> &'static str {
         match self {
             Operand::Text => "TEXT",
             Operand::Preset => "PRESET",
