@@ -75,7 +75,7 @@ fn replace<'a>(
         Err(error) if error.kind() == ErrorKind::AlreadyExists => {
             return Err(Trouble::InTheWay(path));
         }
-        Err(error) => return Err(Trouble::Unwritten(path, error)),
+        Err(error) => return Err(Trouble::unwritten(path, error)),
     };
     let mut written = file.write_all(bytes);
     if let (Ok(()), Some(permissions)) = (&written, permissions) {
@@ -87,7 +87,7 @@ fn replace<'a>(
     if let Err(error) = written {
         // what was written is of no use; that it cannot be removed is not worth a word beside the error
         let _ = fs::remove_file(rt, unfinished.as_str());
-        return Err(Trouble::Unwritten(path, error));
+        return Err(Trouble::unwritten(path, error));
     }
     Ok(())
 }
@@ -102,7 +102,7 @@ pub(crate) fn write_file<'a>(
         return replace(rt, path, path, bytes, None);
     };
     if !metadata.is_file() {
-        return fs::write(rt, path, bytes).map_err(|error| Trouble::Unwritten(path, error));
+        return fs::write(rt, path, bytes).map_err(|error| Trouble::unwritten(path, error));
     }
     // the file itself, where the name is a link to it
     match fs::canonicalize(rt, path) {
@@ -113,6 +113,6 @@ pub(crate) fn write_file<'a>(
             bytes,
             Some(metadata.permissions()),
         ),
-        Err(error) => Err(Trouble::Unwritten(path, error)),
+        Err(error) => Err(Trouble::unwritten(path, error)),
     }
 }

@@ -39,9 +39,11 @@ fn encode<'a>(rt: &HostRuntime, from: &'a str, to: &'a str) -> Result<Outcome, T
         Ok(bytes) => bytes,
         Err(error) => return Err(Trouble::text(from, error)),
     };
-    write_file(rt, to, &bytes)?;
     let count = bytes.len();
-    print_text(rt, format_args!("{to}: {count} bytes\n"))?;
+    // made first, so that no file is written where there is no memory for it
+    let line = format!(in rt.alloc(); "{to}: {count} bytes\n")?;
+    write_file(rt, to, &bytes)?;
+    print!(rt; "{line}")?;
     Ok(Outcome::Done)
 }
 

@@ -32,6 +32,14 @@ impl<'a> Trouble<'a> {
         }
     }
 
+    // Why a file cannot be written.
+    pub(crate) fn unwritten(path: &'a str, error: io::Error) -> Trouble<'a> {
+        match error.kind() {
+            ErrorKind::OutOfMemory => Trouble::Memory,
+            _ => Trouble::Unwritten(path, error),
+        }
+    }
+
     // Why standard input cannot be read.
     pub(crate) fn input(error: io::Error) -> Trouble<'a> {
         match error.kind() {
