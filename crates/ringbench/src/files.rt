@@ -73,7 +73,7 @@ fn replace<'a>(
     let mut file = match File::create_new(rt, unfinished.as_str()) {
         Ok(file) => file,
         Err(error) if error.kind() == ErrorKind::AlreadyExists => {
-            return Err(Trouble::InTheWay(path));
+            return Err(Trouble::InTheWay(path, unfinished));
         }
         Err(error) => return Err(Trouble::unwritten(path, error)),
     };
