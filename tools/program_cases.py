@@ -49,7 +49,7 @@ class Case:
     # standard input, and what is in the folder beside the presets
     script: Any = ""
     files: dict = field(default_factory=dict)
-    # the bytes of the files that are written, and permissions that are kept
+    # the bytes of the files that are written, and the permissions that files have and keep
     written: dict = field(default_factory=dict)
     modes: dict = field(default_factory=dict)
     # another standard input or output: a file by its name, or CLOSED
@@ -306,6 +306,14 @@ ENCODE = [
         status=1,
         err=[NO_OUTPUT],
         written={"new.preset": RULE_184},
+    ),
+    Case(
+        "into a folder that may not be written",
+        ["encode", "rule184.txt", "folder/new.preset"],
+        files={"folder": Folder()},
+        modes={"folder": 0o555},
+        status=1,
+        err=["folder/new.preset cannot be written: Permission denied (os error 13)"],
     ),
     Case("a text that is not there", ["encode", "none.preset", "rule90.preset"], status=1, err=[NO_FILE]),
     Case(
@@ -904,6 +912,14 @@ STREAMS = [
                 files={"folder": Folder()},
                 status=1,
                 err=[IS_FOLDER],
+            ),
+            Case(
+                "a file that may not be read",
+                [word.format("rule90.preset") for word in words],
+                script="open 10\n",
+                modes={"rule90.preset": 0o200},
+                status=1,
+                err=["rule90.preset cannot be read: Permission denied (os error 13)"],
             ),
         ]
     ],
