@@ -3,7 +3,7 @@ use crate::trouble::Trouble;
 use std::alloc::AllocError;
 use std::env::{Env, FillError};
 use std::fs;
-use std::fs::{File, Permissions};
+use std::fs::{File, Metadata, Permissions};
 use std::io::{ErrorKind, Read, Write};
 use std::os::unix::fs::MetadataExt;
 
@@ -53,11 +53,27 @@ pub(crate) fn arguments(rt: &HostRuntime) -> Result<Vec<Vec<u8>>, AllocError> {
     Ok(words)
 }
 
-// Whether two names are of one file.
-pub(crate) fn is_same_file(rt: &HostRuntime, one: &str, other: &str) -> bool {
-    match (fs::metadata(rt, one), fs::metadata(rt, other)) {
-        (Ok(one), Ok(other)) => one.dev() == other.dev() && one.ino() == other.ino(),
-        _ => false,
+// What is known of the file that is to be written, if there is one.
+fn found<'a>(rt: &HostRuntime, path: &'a str) -> Result<Option<Metadata>, Trouble<'a>> {
+    match fs::metadata(rt, path) {
+        Ok(metadata) => Ok(Some(metadata)),
+        Err(error) if error.kind() == ErrorKind::NotFound => Ok(None),
+        Err(error) => Err(Trouble::unwritten(path, error)),
+    }
+}
+
+// Whether a file that was read is the one that is to be written.
+pub(crate) fn is_same_file<'a>(
+    rt: &HostRuntime,
+    from: &'a str,
+    to: &'a str,
+) -> Result<bool, Trouble<'a>> {
+    let Some(target) = found(rt, to)? else {
+        return Ok(false);
+    };
+    match fs::metadata(rt, from) {
+        Ok(source) => Ok(source.dev() == target.dev() && source.ino() == target.ino()),
+        Err(error) => Err(Trouble::unread(from, error)),
     }
 }
 
@@ -98,7 +114,7 @@ pub(crate) fn write_file<'a>(
     path: &'a str,
     bytes: &[u8],
 ) -> Result<(), Trouble<'a>> {
-    let Ok(metadata) = fs::metadata(rt, path) else {
+    let Some(metadata) = found(rt, path)? else {
         return replace(rt, path, path, bytes, None);
     };
     if !metadata.is_file() {

@@ -32,7 +32,7 @@ fn show<'a>(rt: &HostRuntime, path: &'a str) -> Result<Outcome, Trouble<'a>> {
 
 fn encode<'a>(rt: &HostRuntime, from: &'a str, to: &'a str) -> Result<Outcome, Trouble<'a>> {
     let text = read_file(rt, from)?;
-    if is_same_file(rt, from, to) {
+    if is_same_file(rt, from, to)? {
         return Err(Trouble::OwnText(to));
     }
     let bytes = match encode_page(rt.alloc(), &text) {
