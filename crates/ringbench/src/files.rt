@@ -3,7 +3,7 @@ use crate::trouble::Trouble;
 use std::alloc::AllocError;
 use std::env::{Env, FillError};
 use std::fs;
-use std::fs::{File, Permissions};
+use std::fs::{File, Metadata, Permissions};
 use std::io::{ErrorKind, Read, Write};
 use std::os::unix::fs::MetadataExt;
 
@@ -53,11 +53,27 @@ pub(crate) fn arguments(rt: &HostRuntime) -> Result<Vec<Vec<u8>>, AllocError> {
     Ok(words)
 }
 
-// Whether two names are of one file.
-pub(crate) fn is_same_file(rt: &HostRuntime, one: &str, other: &str) -> bool {
-    match (fs::metadata(rt, one), fs::metadata(rt, other)) {
-        (Ok(one), Ok(other)) => one.dev() == other.dev() && one.ino() == other.ino(),
-        _ => false,
+// What is known of the file that is to be written, if there is one.
+fn found<'a>(rt: &HostRuntime, path: &'a str) -> Result<Option<Metadata>, Trouble<'a>> {
+    match fs::metadata(rt, path) {
+        Ok(metadata) => Ok(Some(metadata)),
+        Err(error) if error.kind() == ErrorKind::NotFound => Ok(None),
+        Err(error) => Err(Trouble::unwritten(path, error)),
+    }
+}
+
+// Whether a file that was read is the one that is to be written.
+pub(crate) fn is_same_file<'a>(
+    rt: &HostRuntime,
+    from: &'a str,
+    to: &'a str,
+) -> Result<bool, Trouble<'a>> {
+    let Some(target) = found(rt, to)? else {
+        return Ok(false);
+    };
+    match fs::metadata(rt, from) {
+        Ok(source) => Ok(source.dev() == target.dev() && source.ino() == target.ino()),
+        Err(error) => Err(Trouble::unread(from, error)),
     }
 }
 
@@ -73,9 +89,9 @@ fn replace<'a>(
     let mut file = match File::create_new(rt, unfinished.as_str()) {
         Ok(file) => file,
         Err(error) if error.kind() == ErrorKind::AlreadyExists => {
-            return Err(Trouble::InTheWay(path));
+            return Err(Trouble::InTheWay(path, unfinished));
         }
-        Err(error) => return Err(Trouble::Unwritten(path, error)),
+        Err(error) => return Err(Trouble::unwritten(path, error)),
     };
     let mut written = file.write_all(bytes);
     if let (Ok(()), Some(permissions)) = (&written, permissions) {
@@ -87,7 +103,7 @@ fn replace<'a>(
     if let Err(error) = written {
         // what was written is of no use; that it cannot be removed is not worth a word beside the error
         let _ = fs::remove_file(rt, unfinished.as_str());
-        return Err(Trouble::Unwritten(path, error));
+        return Err(Trouble::unwritten(path, error));
     }
     Ok(())
 }
@@ -98,11 +114,11 @@ pub(crate) fn write_file<'a>(
     path: &'a str,
     bytes: &[u8],
 ) -> Result<(), Trouble<'a>> {
-    let Ok(metadata) = fs::metadata(rt, path) else {
+    let Some(metadata) = found(rt, path)? else {
         return replace(rt, path, path, bytes, None);
     };
     if !metadata.is_file() {
-        return fs::write(rt, path, bytes).map_err(|error| Trouble::Unwritten(path, error));
+        return fs::write(rt, path, bytes).map_err(|error| Trouble::unwritten(path, error));
     }
     // the file itself, where the name is a link to it
     match fs::canonicalize(rt, path) {
@@ -113,6 +129,6 @@ pub(crate) fn write_file<'a>(
             bytes,
             Some(metadata.permissions()),
         ),
-        Err(error) => Err(Trouble::Unwritten(path, error)),
+        Err(error) => Err(Trouble::unwritten(path, error)),
     }
 }

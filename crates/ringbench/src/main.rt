@@ -32,21 +32,21 @@ fn show<'a>(rt: &HostRuntime, path: &'a str) -> Result<Outcome, Trouble<'a>> {
 
 fn encode<'a>(rt: &HostRuntime, from: &'a str, to: &'a str) -> Result<Outcome, Trouble<'a>> {
     let text = read_file(rt, from)?;
-    if is_same_file(rt, from, to) {
+    if is_same_file(rt, from, to)? {
         return Err(Trouble::OwnText(to));
     }
     let bytes = match encode_page(rt.alloc(), &text) {
         Ok(bytes) => bytes,
         Err(error) => return Err(Trouble::text(from, error)),
     };
+    let line = WrittenText {
+        path: to,
+        bytes: bytes.len(),
+    };
+    // made first, so that no file is written where there is no memory to tell of it
+    let line = format!(in rt.alloc(); "{line}")?;
     write_file(rt, to, &bytes)?;
-    print_text(
-        rt,
-        WrittenText {
-            path: to,
-            bytes: bytes.len(),
-        },
-    )?;
+    print!(rt; "{line}")?;
     Ok(Outcome::Done)
 }
 

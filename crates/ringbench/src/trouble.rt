@@ -13,8 +13,8 @@ pub(crate) enum Trouble<'a> {
     // a file cannot be read, or be written
     Unread(&'a str, io::Error),
     Unwritten(&'a str, io::Error),
-    // a file that is not finished is in the way of another
-    InTheWay(&'a str),
+    // a file is in the way of the one that is to be the file once it is whole
+    InTheWay(&'a str, String),
     // the preset would be written onto its own text
     OwnText(&'a str),
     Text(&'a str, EncodeError),
@@ -29,6 +29,14 @@ impl<'a> Trouble<'a> {
         match error.kind() {
             ErrorKind::OutOfMemory => Trouble::Memory,
             _ => Trouble::Unread(path, error),
+        }
+    }
+
+    // Why a file cannot be written.
+    pub(crate) fn unwritten(path: &'a str, error: io::Error) -> Trouble<'a> {
+        match error.kind() {
+            ErrorKind::OutOfMemory => Trouble::Memory,
+            _ => Trouble::Unwritten(path, error),
         }
     }
 
@@ -90,10 +98,9 @@ impl fmt::Display for Trouble<'_> {
             Trouble::Usage(error) => write!(f, "{error} (ringbench help tells what there is)"),
             Trouble::Unread(path, error) => write!(f, "{path} cannot be read: {error}"),
             Trouble::Unwritten(path, error) => write!(f, "{path} cannot be written: {error}"),
-            Trouble::InTheWay(path) => write!(
-                f,
-                "{path} cannot be written: {path}.unfinished is in the way"
-            ),
+            Trouble::InTheWay(path, unfinished) => {
+                write!(f, "{path} cannot be written: {unfinished} is in the way")
+            }
             Trouble::OwnText(path) => write!(f, "{path} is the text itself, which is kept"),
             Trouble::Text(path, error) => write!(f, "{path}: {error}"),
             Trouble::Script(error) => write!(f, "the script: {error}"),
