@@ -15,6 +15,7 @@ usage: ringbench COMMAND
                          print the ring, one row a step, and what has crossed into each site
   help, --help, -h       print this page
 
-At most 1000000 steps are run at once. A file whose name begins with a minus sign is written ./-NAME.
-The status is 0 where all that was asked is done, each preset holds and the densities agree, and else 1.
+At most 1000000 steps are run at once. A file whose name begins with a minus sign is given as
+./-NAME. The status is 0 where all that was asked is done, each preset holds and the densities
+agree, and else 1.
 ";

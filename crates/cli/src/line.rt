@@ -133,7 +133,8 @@ fn named<'a>(
     third: Option<&[u8]>,
 ) -> Result<Option<Command<'a>>, Wanted>
     ensures { read some_asked result
-        ≡ named_command (text name.entry) (text first.entry) (text second.entry) (text third.entry) }
+        ≡ named_command (text name.entry)
+        (text first.entry) (text second.entry) (text third.entry) }
 {
     let Some(name) = name else {
         return Ok(None);
