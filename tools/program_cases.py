@@ -37,7 +37,7 @@ class Folder:
 
 @dataclass
 class Case:
-    """A run of the program; no file but those that are written is changed or made."""
+    """A run of the program; no file is changed or made but those that are written."""
 
     name: str
     words: list
@@ -434,7 +434,6 @@ COMPARE = [
     Case("the first is damaged", ["compare", "damaged.preset", "rule184.preset"], status=1, out=DAMAGED),
     Case("the second is damaged", ["compare", "rule184.preset", "damaged.preset"], status=1, out=DAMAGED),
     Case("the second is not there", ["compare", "rule184.preset", "none.preset"], status=1, err=[NO_FILE]),
-    # two alphabets
     Case(
         "two alphabets",
         ["compare", "rule184.preset", "eight-letters.preset"],
@@ -495,7 +494,12 @@ RUN = [
         out=rows(["01" * 2048, "01" * 2048]),
     ),
     Case("too many cells", ["run", "rule204.preset", "0" * 4097, "1"], status=1, out=BAD_LENGTH),
-    Case("too many cells with meters", ["run", "rule204.preset", "0" * 4097, "1", "--meters"], status=1, out=BAD_LENGTH),
+    Case(
+        "too many cells with meters",
+        ["run", "rule204.preset", "0" * 4097, "1", "--meters"],
+        status=1,
+        out=BAD_LENGTH,
+    ),
     # the next letter is 1 where one neighbour is
     Case("a preset that breaks", ["run", "rule90.preset", "00100", "2"], out="00100\n01010\n10001\n"),
     Case(
