@@ -771,10 +771,25 @@ PLAY = [
 # Words that ask nothing, and the page of help
 
 
+COMMANDS = [
+    "show PRESET ",
+    "encode TEXT PRESET ",
+    "judge PRESET... ",
+    "crossings PRESET ",
+    "compare PRESET PRESET ",
+    "play PRESET ",
+    "run PRESET RING STEPS [--meters]\n",
+    "help, --help, -h ",
+]
+
+
 def page_of_help():
-    """The page of help as its source has it."""
+    """The page of help as its source has it, which has a line for each command."""
     source = (ROOT / "crates" / "cli" / "src" / "help.rt").read_text(encoding="utf-8")
-    return source.split('"\\\n')[1].split('";\n')[0]
+    page = source.split('"\\\n')[1].split('";\n')[0]
+    for command in COMMANDS:
+        assert f"\n  {command}" in page, f"the page of help lacks {command}"
+    return page
 
 
 HELP = [
