@@ -317,6 +317,12 @@ ENCODE = [
     ),
     Case("a text that is not there", ["encode", "none.preset", "rule90.preset"], status=1, err=[NO_FILE]),
     Case(
+        "a text of a name that is no line",
+        ["encode", "no\nne.txt", "new.preset"],
+        status=1,
+        err=["no\\x0ane.txt cannot be read: No such file or directory (os error 2)"],
+    ),
+    Case(
         "a folder for a text",
         ["encode", "folder", "rule90.preset"],
         files={"folder": Folder()},
@@ -811,6 +817,9 @@ HELP = [
     bad_usage("a command in capitals", ["Show", "rule184.preset"], "Show is no command"),
     bad_usage("an option for a command", ["--all"], "--all is no option here"),
     bad_usage("a command that is not UTF-8", [b"\xffshow"], "\\xffshow is no command"),
+    bad_usage("a command of other letters", ["zeigen\u00fc"], "zeigen\u00fc is no command"),
+    bad_usage("a command that is no line", ["show\nall"], "show\\x0aall is no command"),
+    bad_usage("an empty command", [""], "'' is no command"),
     bad_usage("a sign that is not printed", ["a\n\x7fb"], "a\\x0a\\x7fb is no command"),
     bad_usage("help with a word", ["help", "show"], "show is one word too many"),
     bad_usage("help with an option", ["help", "--all"], "--all is no option here"),

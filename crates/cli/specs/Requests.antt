@@ -2,11 +2,10 @@
 use Rattle.std.specs.Prelude.{ℕ, Bool, true, false, cond, ◌||◌, List, [], ◌∷◌, ◌++◌, map, length, Some, None, Ok, Err, Option, Result, ◌==◌, nat_le, codes, decimal, vec_items}
 use Rattle.std.specs.Option.{ok_or}
 use Rattle.std.specs.Str.{bytes_eq}
-use Rattle.std.specs.Str.Lossy.{utf8_valid_len}
 use Rattle.fault.specs.Answers.{and_then}
 use Rattle.cli.specs.Commands.{count, ring, most_steps, word_at, letters}
 use Rattle.cli.specs.Names.{named}
-use Rattle.cli.specs.Words.{shown_word}
+use Rattle.cli.specs.Words.{is_utf8, shown_word}
 use Rattle.cli.specs.declared.request.Request.{Request as RequestOf}
 use Rattle.cli.specs.declared.request.Request.TheVariants as request
 use Rattle.cli.specs.declared.usage.Operand.{Operand}
@@ -73,10 +72,6 @@ abbrev pub is_option : List ℕ → Bool
 is_option [] = false
 is_option (b ∷ []) = false
 is_option (b ∷ (c ∷ bs)) = b == 45
-
--- all of a word is UTF-8
-abbrev pub is_utf8 : List ℕ → Bool
-is_utf8 w = utf8_valid_len w == length w
 
 -- a word that names a file
 abbrev pub name : List ℕ → Asking (List ℕ)

@@ -86,7 +86,7 @@ fn word<C: Sent>(charge: C) -> EntryWord
 }
 
 // The meters of a site as words.
-#[derive(Clone, Copy)]
+#[derive(Drop)]
 struct ReadingText<C> {
     reading: Reading<C>,
 }
@@ -107,7 +107,7 @@ impl<C: Sent> fmt::Display for ReadingText<C> {
 }
 
 // The meters of a site as a row of a table.
-#[derive(Clone, Copy)]
+#[derive(Drop)]
 struct MetersRow<C> {
     site: usize,
     reading: Reading<C>,
@@ -127,7 +127,7 @@ impl<C: Sent> fmt::Display for MetersRow<C> {
 }
 
 // The meters of all sites, a row each.
-#[derive(Clone, Copy)]
+#[derive(Drop)]
 struct MetersRows<'a, C> {
     readings: &'a [Reading<C>],
 }
@@ -148,7 +148,7 @@ impl<C: Sent> fmt::Display for MetersRows<'_, C> {
 }
 
 // The meters of an arc as words.
-#[derive(Clone, Copy)]
+#[derive(Drop)]
 struct ArcText<C> {
     meters: ArcReading<C>,
 }
@@ -233,7 +233,7 @@ impl<C: Sent> fmt::Display for RingRow<'_, C> {
 }
 
 // Charges as words, a space before each.
-#[derive(Clone, Copy)]
+#[derive(Drop)]
 struct Crossed<'a, C> {
     charges: &'a [C],
 }

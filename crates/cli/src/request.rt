@@ -1,12 +1,13 @@
 // What the program's arguments ask.
 ghost use Rattle.std.specs.Prelude.{◌≡◌, if◌then◌else◌, Some, None, map, vec_items};
 ghost use Rattle.cli.specs.Commands.{text, word_at, letters};
-ghost use Rattle.cli.specs.Requests.{is_option, is_utf8, name, operand, ring_operand, steps_operand, no_more, asking, request_of, asked_of, command_named, asks_help, any_help, requested};
+ghost use Rattle.cli.specs.Requests.{is_option, name, operand, ring_operand, steps_operand, no_more, asking, request_of, asked_of, command_named, asks_help, any_help, requested};
 ghost use Rattle.cli.specs.declared.subcommand.Subcommand.TheVariants as verb;
 
 use crate::command::Digits;
 use crate::count::{read_count, read_ring};
 use crate::line::MOST_STEPS;
+use crate::shown::utf8;
 use crate::subcommand::{Subcommand, subcommand_named};
 use crate::usage::{Operand, UsageError};
 use console::is_text;
@@ -48,17 +49,6 @@ fn is_option(word: &[u8]) -> bool
     ensures { result ≡ is_option word.now }
 {
     matches!(word, [b'-', _, ..])
-}
-
-// A word that is UTF-8.
-#[tactic(auto, using(crate::proofs::Utf8::utf8_valid, crate::proofs::Utf8::utf8_invalid))]
-fn utf8(word: &[u8]) -> Option<&str>
-    ensures { text result ≡ (if is_utf8 word.now then Some word.now else None) }
-{
-    match str::from_utf8(word) {
-        Ok(text) => Some(text),
-        Err(_) => None,
-    }
 }
 
 // The name of a file that a word is. No word of UTF-8 names a file that has another name, and no option names one.

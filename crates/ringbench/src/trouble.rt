@@ -1,5 +1,5 @@
 // Why the program stops before all that was asked is done.
-use cli::{ScriptError, UsageError};
+use cli::{ScriptError, ShownWord, UsageError};
 use console::EncodeError;
 use std::alloc::{AllocError, AllocFailed};
 use std::io::ErrorKind;
@@ -91,18 +91,39 @@ impl From<ScriptError> for Trouble<'_> {
     }
 }
 
+// A name as it is shown in a line.
+fn shown(name: &str) -> ShownWord<'_> {
+    ShownWord {
+        bytes: name.as_bytes(),
+    }
+}
+
 impl fmt::Display for Trouble<'_> {
     fn fmt<W: fmt::Write>(&self, f: &mut fmt::Formatter<W>) -> fmt::Result {
         match self {
             Trouble::Memory => f.write_str("there is not enough memory"),
             Trouble::Usage(error) => write!(f, "{error} (ringbench help tells what there is)"),
-            Trouble::Unread(path, error) => write!(f, "{path} cannot be read: {error}"),
-            Trouble::Unwritten(path, error) => write!(f, "{path} cannot be written: {error}"),
-            Trouble::InTheWay(path, unfinished) => {
-                write!(f, "{path} cannot be written: {unfinished} is in the way")
+            Trouble::Unread(path, error) => {
+                let name = shown(path);
+                write!(f, "{name} cannot be read: {error}")
             }
-            Trouble::OwnText(path) => write!(f, "{path} is the text itself, which is kept"),
-            Trouble::Text(path, error) => write!(f, "{path}: {error}"),
+            Trouble::Unwritten(path, error) => {
+                let name = shown(path);
+                write!(f, "{name} cannot be written: {error}")
+            }
+            Trouble::InTheWay(path, unfinished) => {
+                let name = shown(path);
+                let other = shown(unfinished.as_str());
+                write!(f, "{name} cannot be written: {other} is in the way")
+            }
+            Trouble::OwnText(path) => {
+                let name = shown(path);
+                write!(f, "{name} is the text itself, which is kept")
+            }
+            Trouble::Text(path, error) => {
+                let name = shown(path);
+                write!(f, "{name}: {error}")
+            }
             Trouble::Script(error) => write!(f, "the script: {error}"),
             Trouble::Input(error) => write!(f, "standard input cannot be read: {error}"),
             Trouble::Output(error) => write!(f, "standard output cannot be written: {error}"),
