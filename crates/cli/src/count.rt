@@ -1,8 +1,7 @@
 // Numbers and rings as words.
-ghost use Rattle.std.specs.Prelude.{◌≡◌, ◌≤◌, IfSome};
+ghost use Rattle.std.specs.Prelude.{◌≡◌};
 ghost use Rattle.std.specs.Option.{option_map};
-ghost use Rattle.cli.specs.Commands.{is_number, or_end, count, ring, letters};
-ghost use Rattle.console.specs.Numbers.{number_end};
+ghost use Rattle.cli.specs.Commands.{count, ring, letters};
 ghost use Rattle.std.specs.Str.{all_ascii_digits};
 
 use crate::command::Digits;

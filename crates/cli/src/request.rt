@@ -1,5 +1,5 @@
 // What the program's arguments ask.
-ghost use Rattle.std.specs.Prelude.{◌≡◌, if◌then◌else◌, Some, None, map, vec_items};
+ghost use Rattle.std.specs.Prelude.{◌≡◌, map, vec_items};
 ghost use Rattle.cli.specs.Commands.{text, word_at, letters};
 ghost use Rattle.cli.specs.Requests.{is_option, name, operand, ring_operand, steps_operand, no_more, asking, request_of, asked_of, command_named, asks_help, any_help, requested};
 ghost use Rattle.cli.specs.declared.subcommand.Subcommand.TheVariants as verb;

@@ -1,7 +1,6 @@
 // A script as commands.
-ghost use Rattle.std.specs.Prelude.{◌≡◌, Some, Ok, Err, IfErr, map, vec_items};
-ghost use Rattle.cli.specs.Commands.{asked, some_asked};
-ghost use Rattle.cli.specs.Commands.{line_command};
+ghost use Rattle.std.specs.Prelude.{◌≡◌, Some, Err, IfErr, map, vec_items};
+ghost use Rattle.cli.specs.Commands.{asked, some_asked, line_command};
 ghost use Rattle.cli.specs.Scripts.{numbered_of, at_line, script, scripted, Told, wanted_text, script_sentence};
 
 use crate::command::Command;

@@ -1,5 +1,5 @@
 // Why arguments ask nothing.
-ghost use Rattle.std.specs.Prelude.{◌≡◌, Some};
+ghost use Rattle.std.specs.Prelude.{Some};
 
 use crate::line::MOST_STEPS;
 use crate::names::Named;
