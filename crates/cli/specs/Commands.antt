@@ -110,20 +110,19 @@ step_command None second = Ok step
 step_command (Some w) second =
     and_then (ok_or (count w) Steps) (λ n. and_then (few n) (λ m. at_end second (steps m)))
 
+-- a site and a number, and nothing more
+abbrev pub site_and : Wanted → Option (List ℕ) → Option (List ℕ) → Option (List ℕ) → Reading (ℕ × ℕ)
+site_and wanted first second third =
+    and_then (number_word Site first) (λ site. and_then (number_word wanted second) (λ n. at_end third (site, n)))
+
 abbrev pub touch_command : Option (List ℕ) → Option (List ℕ) → Option (List ℕ) → Reading Command
-touch_command first second third =
-    and_then (number_word Site first) (λ site.
-    and_then (number_word Letter second) (λ letter.
-    at_end third (touches site letter)))
+touch_command first second third = read (λ p. touches p.0 p.1) (site_and Letter first second third)
 
 abbrev pub read_command : Option (List ℕ) → Option (List ℕ) → Reading Command
 read_command first second = and_then (number_word Site first) (λ site. at_end second (reads site))
 
 abbrev pub arc_command : Option (List ℕ) → Option (List ℕ) → Option (List ℕ) → Reading Command
-arc_command first second third =
-    and_then (number_word Site first) (λ site.
-    and_then (number_word Length second) (λ len.
-    at_end third (arc site len)))
+arc_command first second third = read (λ p. arc p.0 p.1) (site_and Length first second third)
 
 -- what a command of a sort is, by the words after its name
 abbrev pub of_verb : Verb → Option (List ℕ) → Option (List ℕ) → Option (List ℕ) → Reading Command

@@ -1,6 +1,6 @@
 // A line of a script.
 ghost use Rattle.std.specs.Prelude.{◌≡◌};
-ghost use Rattle.cli.specs.Commands.{asked, read, text, at_end, number_word, few, open_command, step_command, touch_command, read_command, arc_command, of_verb, named_command, line_command, some_asked, ReadsBack};
+ghost use Rattle.cli.specs.Commands.{asked, read, text, at_end, number_word, few, open_command, step_command, site_and, touch_command, read_command, arc_command, of_verb, named_command, line_command, some_asked, ReadsBack};
 
 use crate::command::{Command, Digits, Verb};
 use crate::count::{read_count, read_ring};
@@ -23,12 +23,12 @@ pub enum Wanted {
 // Steps at once are at most as many as this.
 pub const MOST_STEPS: usize = 1_000_000;
 
-// A command, unless something follows.
-fn end<'a>(command: Command<'a>, rest: Option<&[u8]>) -> Result<Command<'a>, Wanted>
-    ensures { read asked result ≡ at_end (text rest.entry) (asked command.entry) }
+// A value, unless something follows.
+fn end<T: Drop>(value: T, rest: Option<&[u8]>) -> Result<T, Wanted>
+    ensures { result ≡ at_end (text rest.entry) value }
 {
     match rest {
-        None => Ok(command),
+        None => Ok(value),
         Some(_) => Err(Wanted::LineEnd),
     }
 }
@@ -61,6 +61,20 @@ fn open<'a>(first: Option<&'a [u8]>, second: Option<&[u8]>) -> Result<Command<'a
     end(Command::Open(ring), second)
 }
 
+// A site and a number.
+fn site_and(
+    wanted: Wanted,
+    first: Option<&[u8]>,
+    second: Option<&[u8]>,
+    third: Option<&[u8]>,
+) -> Result<(usize, usize), Wanted>
+    ensures { result ≡ site_and wanted (text first.entry) (text second.entry) (text third.entry) }
+{
+    let site = number(Wanted::Site, first)?;
+    let count = number(wanted, second)?;
+    end((site, count), third)
+}
+
 fn touch<'a>(
     first: Option<&[u8]>,
     second: Option<&[u8]>,
@@ -69,9 +83,8 @@ fn touch<'a>(
     ensures { read asked result
         ≡ touch_command (text first.entry) (text second.entry) (text third.entry) }
 {
-    let site = number(Wanted::Site, first)?;
-    let letter = number(Wanted::Letter, second)?;
-    end(Command::Touch { site, letter }, third)
+    let (site, letter) = site_and(Wanted::Letter, first, second, third)?;
+    Ok(Command::Touch { site, letter })
 }
 
 fn step<'a>(first: Option<&[u8]>, second: Option<&[u8]>) -> Result<Command<'a>, Wanted>
@@ -99,9 +112,8 @@ fn arc<'a>(
     ensures { read asked result
         ≡ arc_command (text first.entry) (text second.entry) (text third.entry) }
 {
-    let site = number(Wanted::Site, first)?;
-    let len = number(Wanted::Length, second)?;
-    end(Command::Arc { site, len }, third)
+    let (site, len) = site_and(Wanted::Length, first, second, third)?;
+    Ok(Command::Arc { site, len })
 }
 
 // The command of a sort, by the words after its name.
