@@ -4,7 +4,7 @@ use native.Mathlib.Nat.{div-add-mod}
 use Rattle.std.proofs.lemmas.List.{take_more, drop_more, set_at, take_all, ext_get_or, length-take-le}
 use Rattle.std.proofs.lemmas.Int.Digits.{number_push}
 use Rattle.fault.proofs.Powers.{power_bound}
-use Rattle.fault.specs.Answers.{front}
+use Rattle.fault.specs.Answers.{at_front}
 use Rattle.automaton.specs.Words.{Letters, code, window, cell, before}
 use Rattle.automaton.specs.Meanings.{Local, answer, next}
 use Rattle.automaton.proofs.Codes.{code_lt}
@@ -64,7 +64,7 @@ next-letter-at r c i q n l x a within eq en el ex ea =
     ∙ ap (λ t. get_or r.answers t 0) (ex ∙ (λ j. code (eq j) (window (en j) (cell c) (before (length c) (el j) i))))
     ∙ sym (get_or-table (length c) (λ j. answer r (window r.n (cell c) (before (length c) r.l j))) 0 i within)
 
--- one entry more at the front of a strip, and all of them
+-- one entry more at the at_front of a strip, and all of them
 module _ {X : Type 0} (xs old strip : List X) (i : ℕ) where
   pub front_more : (none x : X) → i < length xs → i < length old → x ≡ get_or xs i none → strip ≡ take i xs ++ drop i old →
       set strip i x ≡ take (i + 1) xs ++ drop (i + 1) old
@@ -75,5 +75,5 @@ module _ {X : Type 0} (xs old strip : List X) (i : ℕ) where
       ∙ sym (append_assoc (take i xs) (get_or xs i none ∷ []) (drop (i + 1) old))
       ∙ ap (λ t. t ++ drop (i + 1) old) (sym (take_more xs i none h))
 
-  pub front-done : i ≡ length xs → strip ≡ take i xs ++ drop i old → strip ≡ front xs old
+  pub front-done : i ≡ length xs → strip ≡ take i xs ++ drop i old → strip ≡ at_front xs old
   front-done h e = e ∙ ap₂ (λ t n. t ++ drop n old) (take_all i xs (omega arith)) h

@@ -6,7 +6,7 @@ use Rattle.std.proofs.lemmas.List.{get_or_past}
 use Rattle.charge.specs.Groups.{Kind}
 use Rattle.automaton.specs.Words.{Letters, word, table}
 use Rattle.automaton.specs.Tables.{length-table, get_or-table}
-use Rattle.automaton.specs.Meanings.{DensitySizes, Lawful, Weighed}
+use Rattle.automaton.specs.Meanings.{DensityLimits, Lawful, Weighed}
 use Rattle.automaton.specs.Making.{letter_sum, sum_count, table_density, pattern_density}
 
 -- a letter of a strip, or 0 past its end, is below q
@@ -17,7 +17,7 @@ letter_below q xs some below i =
       | no h ↦ subst (λ (a : ℕ). a < q) (sym (get_or_past xs i 0 (omega arith))) some
     ]
 
-pub lookup-lawful : (q n l : ℕ) (xs : List ℕ) (place : ℕ → ℕ) → DensitySizes q n → l < n → Letters q xs →
+pub lookup-lawful : (q n l : ℕ) (xs : List ℕ) (place : ℕ → ℕ) → DensityLimits q n → l < n → Letters q xs →
     Lawful (record { q = q; n = n; l = l; answers = table (q ^ n) (λ c. slice_index xs (place c)) })
 lookup-lawful q n l xs place sizes reach below = record {
   sizes = (sizes.0, sizes.1, sizes.2, sizes.3, reach);
@@ -27,10 +27,10 @@ lookup-lawful q n l xs place sizes reach below = record {
       subst (λ (a : ℕ). a < q) (sym (get_or-table (q ^ n) (λ c. slice_index xs (place c)) 0 i within)) (letter_below q xs (omega (arith, sizes.0)) below (place i));
 }
 
-pub table_weighed : {C : Type 0} (K : Kind C) (q k : ℕ) (entries : List C) → DensitySizes q k → Weighed (table_density K q k entries)
+pub table_weighed : {C : Type 0} (K : Kind C) (q k : ℕ) (entries : List C) → DensityLimits q k → Weighed (table_density K q k entries)
 table_weighed K q k entries sizes = record { sizes = sizes; each = length-table (q ^ k) (λ c. slice_index_or (map K.means entries) c K.group.zero) }
 
-pub pattern_weighed : {C : Type 0} (K : Kind C) (q k pattern : ℕ) (charge : C) → DensitySizes q k → Weighed (pattern_density K q k pattern charge)
+pub pattern_weighed : {C : Type 0} (K : Kind C) (q k pattern : ℕ) (charge : C) → DensityLimits q k → Weighed (pattern_density K q k pattern charge)
 pattern_weighed K q k pattern charge sizes =
     record { sizes = sizes; each = length-table (q ^ k) (λ c. cond (c == pattern) (K.means charge) K.group.zero) }
 

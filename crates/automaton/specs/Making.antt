@@ -74,8 +74,8 @@ density_tests q k =
     ∷ []
 
 -- how many words of m letters there are, unless they are too many
-abbrev pub counted : ℕ → ℕ → Result ℕ Refusal
-counted q m = cond (few_words q m) (Ok (q ^ m)) (Err (refused_at TooManyWords 0))
+abbrev pub words_counted : ℕ → ℕ → Result ℕ Refusal
+words_counted q m = cond (few_words q m) (Ok (q ^ m)) (Err (refused_at TooManyWords 0))
 
 -- the first `need` items of a strip, where there are as many and each is allowed
 abbrev pub taken : {X : Type 0} → (X → Bool) → Stop → ℕ → List X → Result (List X) Refusal
@@ -93,27 +93,27 @@ lent_items (Err f) = Err (refusal f)
 abbrev pub rule_making : ℕ → ℕ → ℕ → ℕ → List ℕ → Result (List ℕ) Refusal
 rule_making q n l need letters =
     and_then (tested (rule_tests q n l)) (λ _.
-    and_then (counted q n) (λ _.
+    and_then (words_counted q n) (λ _.
     taken (λ a. nat_lt a q) BadLetter need letters))
 
 -- the entries of a density, likewise
 abbrev pub table_making : {C : Type 0} → Kind C → ℕ → ℕ → List C → Result (List C) Refusal
 table_making K q k entries =
     and_then (tested (density_tests q k)) (λ _.
-    and_then (counted q k) (λ count.
+    and_then (words_counted q k) (λ count.
     taken K.entry BadEntry count entries))
 
 -- the letters of a pattern, likewise; its charge is tested last
 abbrev pub pattern_making : {C : Type 0} → Kind C → ℕ → ℕ → List ℕ → C → Result (List ℕ) Refusal
 pattern_making K q k pattern charge =
     and_then (tested (density_tests q k)) (λ _.
-    and_then (counted q k) (λ _.
+    and_then (words_counted q k) (λ _.
     and_then (taken (λ a. nat_lt a q) BadLetter k pattern) (λ letters.
     cond (K.entry charge) (Ok letters) (Err (refused_at BadEntry 0)))))
 
 -- a call that makes something of what it takes, or refuses
-abbrev pub done : {X : Type 0} → Result X Refusal → Result (Unit {0}) Refusal
-done r = and_then r (λ _. Ok tt)
+abbrev pub passes : {X : Type 0} → Result X Refusal → Result (Unit {0}) Refusal
+passes r = and_then r (λ _. Ok tt)
 
 -- an answer that is a charge, by what it means
 abbrev pub charged : {C : Type 0} → (K : Kind C) → Result C Fault → Result K.group.Carrier Refusal

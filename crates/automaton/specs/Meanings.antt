@@ -13,12 +13,12 @@ pub record Local : Type 0 where
   pub answers : List ℕ
 
 -- the limits of a rule's sizes
-abbrev pub RuleSizes : ℕ → ℕ → ℕ → Type 0
-RuleSizes q n l = (least_letters ≤ q) × (q ≤ most_letters) × (1 ≤ n) × (n ≤ most_window) × (l < n)
+abbrev pub RuleLimits : ℕ → ℕ → ℕ → Type 0
+RuleLimits q n l = (least_letters ≤ q) × (q ≤ most_letters) × (1 ≤ n) × (n ≤ most_window) × (l < n)
 
 -- the sizes are within their limits, and there is an answer below q for each word
 pub record Lawful (r : Local) : Type 0 where
-  pub sizes : RuleSizes r.q r.n r.l
+  pub sizes : RuleLimits r.q r.n r.l
   pub each : length r.answers ≡ r.q ^ r.n
   pub letters : Letters r.q r.answers
 
@@ -30,12 +30,12 @@ pub record Weights (A : Type 0) : Type 0 where
   pub charges : List A
 
 -- the limits of a density's sizes
-abbrev pub DensitySizes : ℕ → ℕ → Type 0
-DensitySizes q k = (least_letters ≤ q) × (q ≤ most_letters) × (1 ≤ k) × (k ≤ most_width)
+abbrev pub DensityLimits : ℕ → ℕ → Type 0
+DensityLimits q k = (least_letters ≤ q) × (q ≤ most_letters) × (1 ≤ k) × (k ≤ most_width)
 
 -- the sizes are within their limits, and there is a charge for each word
 pub record Weighed {A : Type 0} (d : Weights A) : Type 0 where
-  pub sizes : DensitySizes d.q d.k
+  pub sizes : DensityLimits d.q d.k
   pub each : length d.charges ≡ d.q ^ d.k
 
 -- a rule's answer for a word

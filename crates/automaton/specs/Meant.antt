@@ -4,7 +4,7 @@ use Rattle.charge.specs.Groups.{Kind}
 use Rattle.charge.specs.Kinds.{voices}
 use Rattle.charge.specs.declared.Charge.{Ghosts as ChargeOf}
 use Rattle.charge.specs.declared.voices.Voices.{Voices}
-use Rattle.automaton.specs.declared.lookup.Table.{Table}
+use Rattle.automaton.specs.declared.lookup.LookupTable.{LookupTable}
 use Rattle.automaton.specs.declared.table_rule.TableRule.{TableRule}
 use Rattle.automaton.specs.declared.sum_rule.SumRule.{SumRule}
 use Rattle.automaton.specs.declared.table_density.TableDensity.{TableDensity}
@@ -16,10 +16,10 @@ use Rattle.automaton.specs.Making.{lookup_rule, by_code, by_sum, table_density, 
 use Rattle.automaton.specs.Lookups.{lookup-lawful, table_weighed, pattern_weighed}
 
 -- the rule that looks its answers up in a table by their places
-abbrev pub looked_up : (ℕ → ℕ → ℕ → ℕ) → Table → Local
+abbrev pub looked_up : (ℕ → ℕ → ℕ → ℕ) → LookupTable → Local
 looked_up place t = lookup_rule place t.words.q t.words.m t.l t.letters.now
 
-pub looked_up-lawful : (place : ℕ → ℕ → ℕ → ℕ) (t : Table) → Lawful (looked_up place t)
+pub looked_up-lawful : (place : ℕ → ℕ → ℕ → ℕ) (t : LookupTable) → Lawful (looked_up place t)
 looked_up-lawful place t = lookup-lawful t.words.q t.words.m t.l t.letters.now (place t.words.q t.words.m) t.words.sizes t.reach t.below
 
 abbrev pub table_rule_meant : TableRule → Local

@@ -11,7 +11,7 @@ mod shown;
 mod sum_rule;
 mod table_density;
 mod table_rule;
-mod words;
+mod word_set;
 
 pub use density::Density;
 pub use pattern::PatternDensity;
@@ -21,4 +21,4 @@ pub use shown::{ShownLetters, ShownWord};
 pub use sum_rule::SumRule;
 pub use table_density::TableDensity;
 pub use table_rule::TableRule;
-pub use words::Words;
+pub use word_set::WordSet;

@@ -6,28 +6,28 @@ ghost use Rattle.automaton.specs.Words.{Letters};
 ghost use Rattle.automaton.specs.Making.{lookup_rule, LooksBelow, zero_rule, taken};
 
 use crate::making::{Alphabet, take_checked};
-use crate::words::Words;
+use crate::word_set::WordSet;
 use fault::Fault;
 
 // The sizes of a rule, and the letters that its answers are taken from.
 #[derive(Clone, Copy)]
-pub(crate) struct Table<'a> {
-    pub words: Words,
+pub(crate) struct LookupTable<'a> {
+    pub words: WordSet,
     pub l: usize,
     pub letters: &'a [u8],
     ghost reach: { l < words.m },
     ghost below: { Letters words.q letters.now },
 }
 
-impl<'a> Table<'a> {
+impl<'a> LookupTable<'a> {
     ghost use Rattle.automaton.specs.Meant.{looked_up};
 
     // The table of two letters and a window of one cell that has no letters: wherever answers are looked up, they are 0.
-    pub(crate) fn zero() -> Table<'a>
+    pub(crate) fn zero() -> LookupTable<'a>
         ensures { (place : ℕ → ℕ → ℕ → ℕ) → looked_up place result ≡ zero_rule }
     {
-        Table {
-            words: Words::least(),
+        LookupTable {
+            words: WordSet::least(),
             l: 0,
             letters: &[],
         }
@@ -35,11 +35,11 @@ impl<'a> Table<'a> {
 
     // The first `places` letters of a strip: a rule that looks up only these is the rule of the whole strip.
     pub(crate) fn of(
-        words: Words,
+        words: WordSet,
         l: u64,
         places: usize,
         letters: &'a [u8],
-    ) -> Result<Table<'a>, Fault>
+    ) -> Result<LookupTable<'a>, Fault>
         requires { l < words.m }
         ensures answer { let taking = taken (λ a. nat_lt a words.q) BadLetter places letters.now in
             MatchResult result (λ t. taking ≡ Ok t.letters.now) (λ f. taking ≡ Err (refusal f)) }
@@ -48,7 +48,7 @@ impl<'a> Table<'a> {
             looked_up place t ≡ lookup_rule place words.q words.m l letters.now) }
     {
         let letters = take_checked(&Alphabet { q: words.q }, places, letters)?;
-        Ok(Table {
+        Ok(LookupTable {
             words,
             l: l as usize,
             letters,

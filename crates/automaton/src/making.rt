@@ -6,9 +6,9 @@ ghost use Rattle.fault.specs.declared.Stop.TheVariants.{BadLetter, BadEntry};
 ghost use Rattle.fault.specs.Answers.{plainly, and_then};
 ghost use Rattle.fault.specs.Checks.{tested, each_fits};
 ghost use Rattle.fault.specs.Refusals.{refusal, refused_at};
-ghost use Rattle.automaton.specs.Making.{rule_tests, density_tests, counted, lent_items, taken};
+ghost use Rattle.automaton.specs.Making.{rule_tests, density_tests, words_counted, lent_items, taken};
 
-use crate::words::Words;
+use crate::word_set::WordSet;
 use charge::Charge;
 use fault::limits::{LEAST_LETTERS, MOST_LETTERS, MOST_WIDTH, MOST_WINDOW};
 use fault::{Fault, Stop};
@@ -60,8 +60,8 @@ impl<C: Charge> Test<C> for Entries {
 }
 
 // The words of a rule's window, which is longer than the reach.
-pub(crate) fn check_rule(q: u64, n: u64, l: u64) -> Result<Words, Fault>
-    ensures { let counting = and_then (tested (rule_tests q n l)) (λ _. counted q n) in
+pub(crate) fn check_rule(q: u64, n: u64, l: u64) -> Result<WordSet, Fault>
+    ensures { let counting = and_then (tested (rule_tests q n l)) (λ _. words_counted q n) in
         MatchResult result
         (λ w. (counting ≡ Ok w.count) × (w.q ≡ q) × (w.m ≡ n) × (l < n))
         (λ f. counting ≡ Err (refusal f)) }
@@ -69,19 +69,19 @@ pub(crate) fn check_rule(q: u64, n: u64, l: u64) -> Result<Words, Fault>
     Stop::BadAlphabet.unless(LEAST_LETTERS <= q && q <= MOST_LETTERS)?;
     Stop::BadWindow.unless(1 <= n && n <= MOST_WINDOW)?;
     Stop::BadReach.unless(l < n)?;
-    Words::few(q, n)
+    WordSet::few(q, n)
 }
 
 // The words of a density's width.
-pub(crate) fn check_density(q: u64, k: u64) -> Result<Words, Fault>
-    ensures { let counting = and_then (tested (density_tests q k)) (λ _. counted q k) in
+pub(crate) fn check_density(q: u64, k: u64) -> Result<WordSet, Fault>
+    ensures { let counting = and_then (tested (density_tests q k)) (λ _. words_counted q k) in
         MatchResult result
         (λ w. (counting ≡ Ok w.count) × (w.q ≡ q) × (w.m ≡ k))
         (λ f. counting ≡ Err (refusal f)) }
 {
     Stop::BadAlphabet.unless(LEAST_LETTERS <= q && q <= MOST_LETTERS)?;
     Stop::BadWidth.unless(1 <= k && k <= MOST_WIDTH)?;
-    Words::few(q, k)
+    WordSet::few(q, k)
 }
 
 // Each item passes; else the index of the first that does not.

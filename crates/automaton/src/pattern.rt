@@ -4,19 +4,19 @@ ghost use Rattle.fault.specs.Answers.{plainly};
 ghost use Rattle.automaton.specs.Words.{code};
 ghost use Rattle.fault.specs.declared.Stop.TheVariants.{BadLetter};
 ghost use Rattle.automaton.specs.Ranges.{entry_or_zero};
-ghost use Rattle.automaton.specs.Making.{pattern_density, zero_density, pattern_making, done, lent_items, taken};
+ghost use Rattle.automaton.specs.Making.{pattern_density, zero_density, pattern_making, passes, lent_items, taken};
 
 use crate::density::Density;
 use crate::making::{Alphabet, check_density, take_checked};
 use crate::ring::Ring;
-use crate::words::Words;
+use crate::word_set::WordSet;
 use charge::Charge;
 use fault::{Fault, Stop};
 
 // A density that gives its charge on one word, known by its code, and zero on all others.
 #[derive(Drop)]
 pub struct PatternDensity<C: Charge> {
-    words: Words,
+    words: WordSet,
     pattern: usize,
     charge: C,
     ghost within: { pattern < words.count },
@@ -52,7 +52,7 @@ impl<C: Charge> PatternDensity<C> {
         ensures { pattern_meant C.kind result ≡ zero_density C.kind }
     {
         PatternDensity {
-            words: Words::least(),
+            words: WordSet::least(),
             pattern: 0,
             charge: C::zero(),
         }
@@ -61,7 +61,7 @@ impl<C: Charge> PatternDensity<C> {
     // Becomes the density of a word and its charge, or refuses and stays as it was.
     #[tactic(auto, using(crate::proofs::VoicesInRange::patterns_in_range))]
     pub fn fill(&mut self, q: u64, k: u64, word: &[u8], charge: C) -> Result<(), Fault>
-        ensures answer { plainly result ≡ done (pattern_making C.kind q k word.now charge) }
+        ensures answer { plainly result ≡ passes (pattern_making C.kind q k word.now charge) }
         ensures density { OnOk result (pattern_meant C.kind self.new
             ≡ pattern_density C.kind q k (code q (take k word.now)) charge) }
         ensures err { OnErr result (self.new ≡ self.old) }
@@ -85,7 +85,7 @@ impl<C: Charge> PatternDensity<C> {
 }
 
 // The letters of a pattern, from the front of a strip.
-fn pattern_letters<'a>(words: Words, strip: &'a [u8]) -> Result<&'a [u8], Fault>
+fn pattern_letters<'a>(words: WordSet, strip: &'a [u8]) -> Result<&'a [u8], Fault>
     ensures { lent_items result ≡ taken (λ a. nat_lt a words.q) BadLetter words.m strip.now }
 {
     take_checked(&Alphabet { q: words.q }, words.m, strip)

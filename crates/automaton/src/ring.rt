@@ -2,11 +2,11 @@
 ghost use Rattle.std.specs.Prelude.{◌≡◌, ◌+◌, ◌-◌, ◌%◌, ◌<◌, ◌≤◌, length, Ok, Err, MatchResult, slice_index, slice_index_or, slice_set};
 ghost use Rattle.fault.specs.Limits.{most_letters, most_window, most_cells};
 ghost use Rattle.fault.specs.Refusals.{refusal};
-ghost use Rattle.fault.specs.Answers.{plainly, and_then, strip_after, front};
+ghost use Rattle.fault.specs.Answers.{plainly, and_then, strip_after, at_front};
 ghost use Rattle.automaton.specs.Words.{Letters, code, window, cell, before};
 ghost use Rattle.automaton.specs.Meanings.{next, booking_offset, site};
 ghost use Rattle.automaton.specs.Meanings.{total as total_of};
-ghost use Rattle.automaton.specs.Making.{ring_checked, done, charged};
+ghost use Rattle.automaton.specs.Making.{ring_checked, passes, charged};
 
 use crate::density::Density;
 use crate::making::{Alphabet, check_each};
@@ -41,7 +41,7 @@ impl<'a> Ring<'a> {
     ghost use Rattle.automaton.specs.Meant.{RingOf};
 
     // The ring of these cells, with `room` for as many, or the refusal. The bound on q is the rule's or the density's.
-    fn checked(q: usize, room: usize, cells: &'a [u8]) -> Result<Ring<'a>, Fault>
+    fn try_new(q: usize, room: usize, cells: &'a [u8]) -> Result<Ring<'a>, Fault>
         requires { q ≤ 8 }
         ensures { let checked = ring_checked q room cells.now in
             MatchResult result
@@ -62,7 +62,7 @@ impl<'a> Ring<'a> {
             (λ r. (checked ≡ Ok r.cells.now) × RingOf q cells.now r × (length cells.now ≤ room))
             (λ f. checked ≡ Err (refusal f)) }
     {
-        Ring::checked(rule.q(), room, cells)
+        Ring::try_new(rule.q(), room, cells)
     }
 
     // The code of the cells from `start` on, which may pass the same cell more than once.
@@ -125,7 +125,7 @@ impl<'a> Ring<'a> {
     fn write_next<R: Rule>(self, rule: &R, strip: &mut [u8])
         requires alphabet { (R.meaning rule.now).q ≡ self.q }
         requires room { length self.cells.now ≤ length strip.old }
-        ensures { strip.new ≡ front (next (R.meaning rule.now) self.entry.cells.now) strip.old }
+        ensures { strip.new ≡ at_front (next (R.meaning rule.now) self.entry.cells.now) strip.old }
     {
         for (i, _) in self.cells.iter().enumerate() {
             self.write_letter(rule, strip, i);
@@ -164,12 +164,12 @@ impl<'a> Ring<'a> {
 // Writes the ring after one step to the front of a strip.
 pub fn next_ring<R: Rule>(rule: &R, ring: &[u8], strip: &mut [u8]) -> Result<(), Fault>
     ensures answer { plainly result
-        ≡ done (ring_checked (R.meaning rule.now).q (length strip.old) ring.now) }
+        ≡ passes (ring_checked (R.meaning rule.now).q (length strip.old) ring.now) }
     ensures strip { let r = R.meaning rule.now in
         let checked = ring_checked r.q (length strip.old) ring.now in
         strip.new ≡ strip_after (next r) strip.old checked }
 {
-    Ring::checked(rule.q(), strip.len(), ring)?.write_next(rule, strip);
+    Ring::try_new(rule.q(), strip.len(), ring)?.write_next(rule, strip);
     Ok(())
 }
 
@@ -180,5 +180,5 @@ pub fn total<C: Charge, D: Density<C>>(density: &D, ring: &[u8]) -> Result<C, Fa
         ≡ and_then (ring_checked d.q (length ring.now) ring.now)
         (λ c. Ok (total_of C.kind.group d c)) }
 {
-    Ok(Ring::checked(density.q(), ring.len(), ring)?.sum_sites(density))
+    Ok(Ring::try_new(density.q(), ring.len(), ring)?.sum_sites(density))
 }

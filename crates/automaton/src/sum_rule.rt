@@ -1,22 +1,22 @@
 // Rules by a table of the answers, one for each sum of the window's letters.
 ghost use Rattle.std.specs.Prelude.{◌≡◌, OnOk, OnErr};
 ghost use Rattle.fault.specs.Answers.{plainly};
-ghost use Rattle.automaton.specs.Making.{sum_rule, by_sum, sum_count, zero_rule, rule_making, done};
+ghost use Rattle.automaton.specs.Making.{sum_rule, by_sum, sum_count, zero_rule, rule_making, passes};
 
-use crate::lookup::Table;
+use crate::lookup::LookupTable;
 use crate::making::check_rule;
 use crate::rule::Rule;
-use crate::words::Words;
+use crate::word_set::WordSet;
 use fault::Fault;
 
 // A rule of which the answer for a word stands at the sum of its letters.
 #[derive(Clone, Copy)]
 pub struct SumRule<'a> {
-    table: Table<'a>,
+    table: LookupTable<'a>,
 }
 
 // The sum of the letters of the word of a code.
-fn sum_of(words: Words, code: usize) -> usize
+fn sum_of(words: WordSet, code: usize) -> usize
     ensures { result ≡ by_sum words.q words.m code }
 {
     let mut front = code;
@@ -29,7 +29,7 @@ fn sum_of(words: Words, code: usize) -> usize
 }
 
 // How many sums the words have.
-fn sums(words: Words) -> usize
+fn sums(words: WordSet) -> usize
     ensures { result ≡ sum_count words.q words.m }
 {
     words.m * (words.q - 1) + 1
@@ -67,18 +67,18 @@ impl<'a> SumRule<'a> {
         ensures { sum_rule_meant result ≡ zero_rule }
     {
         SumRule {
-            table: Table::zero(),
+            table: LookupTable::zero(),
         }
     }
 
     // Becomes the rule of a table of sums, or refuses and stays as it was.
     pub fn fill(&mut self, q: u64, n: u64, l: u64, letters: &'a [u8]) -> Result<(), Fault>
-        ensures answer { plainly result ≡ done (rule_making q n l (sum_count q n) letters.now) }
+        ensures answer { plainly result ≡ passes (rule_making q n l (sum_count q n) letters.now) }
         ensures rule { OnOk result (sum_rule_meant self.new ≡ sum_rule q n l letters.now) }
         ensures err { OnErr result (self.new ≡ self.old) }
     {
         let words = check_rule(q, n, l)?;
-        self.table = Table::of(words, l, sums(words), letters)?;
+        self.table = LookupTable::of(words, l, sums(words), letters)?;
         Ok(())
     }
 }

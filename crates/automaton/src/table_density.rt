@@ -3,18 +3,18 @@ ghost use Rattle.std.specs.Prelude.{◌≡◌, ◌<◌, ◌≤◌, length, IsTru
 ghost use Rattle.std.specs.List.{list_all};
 ghost use Rattle.fault.specs.Answers.{plainly};
 ghost use Rattle.fault.specs.declared.Stop.TheVariants.{BadEntry};
-ghost use Rattle.automaton.specs.Making.{table_density, zero_density, table_making, done, lent_items, taken};
+ghost use Rattle.automaton.specs.Making.{table_density, zero_density, table_making, passes, lent_items, taken};
 
 use crate::density::Density;
 use crate::making::{Entries, check_density, take_checked};
-use crate::words::Words;
+use crate::word_set::WordSet;
 use charge::Charge;
 use fault::Fault;
 
 // A density of which the charges stand in a table, in the order of the codes.
 #[derive(Drop)]
 pub struct TableDensity<'a, C: Charge> {
-    words: Words,
+    words: WordSet,
     entries: &'a [C],
     ghost exact: { length entries.now ≤ words.count },
     ghost allowed: { IsTrue (list_all C.kind.entry entries.now) },
@@ -48,7 +48,7 @@ impl<'a, C: Charge> TableDensity<'a, C> {
         ensures { table_meant C.kind result ≡ zero_density C.kind }
     {
         TableDensity {
-            words: Words::least(),
+            words: WordSet::least(),
             entries: &[],
         }
     }
@@ -56,7 +56,7 @@ impl<'a, C: Charge> TableDensity<'a, C> {
     // Becomes the density of a table, or refuses and stays as it was.
     #[tactic(auto, using(crate::proofs::VoicesInRange::tables_in_range))]
     pub fn fill(&mut self, q: u64, k: u64, entries: &'a [C]) -> Result<(), Fault>
-        ensures answer { plainly result ≡ done (table_making C.kind q k entries.now) }
+        ensures answer { plainly result ≡ passes (table_making C.kind q k entries.now) }
         ensures density { OnOk result (table_meant C.kind self.new
             ≡ table_density C.kind q k entries.now) }
         ensures err { OnErr result (self.new ≡ self.old) }
@@ -70,7 +70,7 @@ impl<'a, C: Charge> TableDensity<'a, C> {
 }
 
 // The entries of a table, one for each word, from the front of a strip.
-fn table_entries<'a, C: Charge>(words: Words, strip: &'a [C]) -> Result<&'a [C], Fault>
+fn table_entries<'a, C: Charge>(words: WordSet, strip: &'a [C]) -> Result<&'a [C], Fault>
     ensures { lent_items result ≡ taken C.kind.entry BadEntry words.count strip.now }
 {
     take_checked(&Entries, words.count, strip)

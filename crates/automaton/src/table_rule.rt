@@ -1,9 +1,9 @@
 // Rules by a table of the answers in the order of the codes.
 ghost use Rattle.std.specs.Prelude.{◌≡◌, ◌^◌, OnOk, OnErr};
 ghost use Rattle.fault.specs.Answers.{plainly};
-ghost use Rattle.automaton.specs.Making.{table_rule, by_code, zero_rule, rule_making, done};
+ghost use Rattle.automaton.specs.Making.{table_rule, by_code, zero_rule, rule_making, passes};
 
-use crate::lookup::Table;
+use crate::lookup::LookupTable;
 use crate::making::check_rule;
 use crate::rule::Rule;
 use fault::Fault;
@@ -11,7 +11,7 @@ use fault::Fault;
 // A rule of which the answers stand in a table, in the order of the codes.
 #[derive(Clone, Copy)]
 pub struct TableRule<'a> {
-    table: Table<'a>,
+    table: LookupTable<'a>,
 }
 
 impl Rule for TableRule<'_> {
@@ -46,18 +46,18 @@ impl<'a> TableRule<'a> {
         ensures { table_rule_meant result ≡ zero_rule }
     {
         TableRule {
-            table: Table::zero(),
+            table: LookupTable::zero(),
         }
     }
 
     // Becomes the rule of a table, or refuses and stays as it was.
     pub fn fill(&mut self, q: u64, n: u64, l: u64, letters: &'a [u8]) -> Result<(), Fault>
-        ensures answer { plainly result ≡ done (rule_making q n l (q ^ n) letters.now) }
+        ensures answer { plainly result ≡ passes (rule_making q n l (q ^ n) letters.now) }
         ensures rule { OnOk result (table_rule_meant self.new ≡ table_rule q n l letters.now) }
         ensures err { OnErr result (self.new ≡ self.old) }
     {
         let words = check_rule(q, n, l)?;
-        self.table = Table::of(words, l, words.count, letters)?;
+        self.table = LookupTable::of(words, l, words.count, letters)?;
         Ok(())
     }
 }

@@ -9,7 +9,7 @@ use Rattle.fault.proofs.Powers.{too_many}
 use Rattle.charge.specs.Groups.{Kind, minus}
 use Rattle.charge.proofs.Sums.{same_from-minus, minus_from-same}
 use Rattle.automaton.specs.Words.{Letters, Word, code, word}
-use Rattle.automaton.specs.Meanings.{Weights, Lawful, Weighed, DensitySizes, weight, total}
+use Rattle.automaton.specs.Meanings.{Weights, Lawful, Weighed, DensityLimits, weight, total}
 use Rattle.automaton.proofs.Codes.{code_lt, word-code}
 use Rattle.automaton.proofs.Rings.{get_or-table}
 use Rattle.criterion.specs.Balance.{ring_sum, OnlyTable}
@@ -36,7 +36,7 @@ FoundTells K q m D A B most r None = Agree q A B × OnlyTable K.group D padding 
 FoundTells K q m D A B most r (Some f) = Apart q most A B f.1
 
 -- a label D on words of m letters that sums on each ring to what A is more than B
-module _ {C : Type 0} (K : Kind C) (q m : ℕ) (D A B : List ℕ → K.group.Carrier) (most r : ℕ) (sizes : DensitySizes q m) (few : q ^ m ≤ 4096) (bound : 2 * m - 1 ≤ most) (rest : r ≡ m - 1)
+module _ {C : Type 0} (K : Kind C) (q m : ℕ) (D A B : List ℕ → K.group.Carrier) (most r : ℕ) (sizes : DensityLimits q m) (few : q ^ m ≤ 4096) (bound : 2 * m - 1 ≤ most) (rest : r ≡ m - 1)
     (gain : (c : List ℕ) → 1 ≤ length c → ring_sum K.group D m c ≡ minus K.group (A c) (B c)) where
   some : 0 < q
   some = omega (arith, sizes.0)
@@ -76,7 +76,7 @@ module _ {C : Type 0} (K : Kind C) (q m : ℕ) (D A B : List ℕ → K.group.Car
 pub fits : (q other m : ℕ) → fitting q other m ≡ Ok tt → (q ≡ other) × (q ^ m ≤ 4096)
 fits q other m e = grind (arith, nat_tests)
 
-pub label-sizes : (q m : ℕ) → 2 ≤ q → q ≤ 8 → 1 ≤ m → q ^ m ≤ 4096 → DensitySizes q m
+pub label-sizes : (q m : ℕ) → 2 ≤ q → q ≤ 8 → 1 ≤ m → q ^ m ≤ 4096 → DensityLimits q m
 label-sizes q m two eight one few = (two, eight, one, short)
   where
     short : m ≤ 12

@@ -1,19 +1,19 @@
 -- What is found among the words of a label that keeps sizes of its own. Assumes nothing.
 use Rattle.std.proofs.Common.{◌≡◌, ℕ, ◌+◌, ◌-◌, ◌^◌, ◌≤◌, max, List, length, take, drop, Some, None, Ok, Err, Option, Result, sym, refl, ap, ◌∙◌, subst, ap₂, arith, length-append, take_at}
-use Rattle.fault.specs.Answers.{and_then, front, strip_after}
+use Rattle.fault.specs.Answers.{and_then, at_front, strip_after}
 use Rattle.fault.specs.declared.Stop.TheVariants.{ShortStrip}
 use Rattle.fault.specs.Limits.{most_words}
 use Rattle.fault.specs.Refusals.{Refusal, refused_at}
 use Rattle.std.proofs.lemmas.Bool.Decides.{nat_tests}
 use Rattle.charge.specs.Groups.{Kind}
 use Rattle.automaton.specs.Words.{Letters}
-use Rattle.automaton.specs.Making.{ring_checked, done}
+use Rattle.automaton.specs.Making.{ring_checked, passes}
 use Rattle.automaton.specs.Meanings.{Local, Weights, Lawful, Weighed, next, total}
 use Rattle.automaton.proofs.Passes.{ring_ready}
 use Rattle.automaton.proofs.Steps.{length-next, next_word}
 use Rattle.criterion.specs.Answers.{with_length, examined, crossings_written, ring_written}
 use Rattle.criterion.specs.Search.{padding, crossings}
-use Rattle.criterion.specs.Strips.{FrontMeans}
+use Rattle.criterion.specs.ChargeStrips.{FrontMeans}
 use Rattle.bench.specs.Labels.{rule_label_list, two_label, two_label_list, listed}
 use Rattle.bench.specs.Benches.{Bench}
 use Rattle.bench.specs.Laws.{VerdictRight, ComparisonRight}
@@ -34,7 +34,7 @@ module _ {C : Type 0} (K : Kind C) (L M : Weights K.group.Carrier) (t : Result (
 
   -- the same label under another name, once the sizes have passed
   pub left_passed : t ≡ Ok tt → L ≡ M → said ≡ with_length (look L) → FrontMeans K (crossings_written K padding L (length old.crossings) (length old.ring)) old.crossings new.crossings →
-      new.ring ≡ front (ring_written (look L)) old.ring → Left K (and_then t (λ _. look M)) (crossings K padding M) said old new
+      new.ring ≡ at_front (ring_written (look L)) old.ring → Left K (and_then t (λ _. look M)) (crossings K padding M) said old new
   left_passed passed same x y z =
       subst (λ (u : Result (Unit {0}) Refusal). Left K (and_then u (λ _. look M)) (crossings K padding M) said old new) (sym passed)
       (subst (λ (N : Weights K.group.Carrier). Left K (look N) (crossings K padding N) said old new) same (record { answer = x; left = record { crossings = y; ring = z } }))
@@ -74,7 +74,7 @@ two_list-same {C} K s d e eq e1 e2 eq' em =
     second : second_sized s e ≡ e
     second i = record { q = eq' i; k = e2 i; charges = e.charges }
 
--- The ring that a call has shown, where it answers a failing word and a length: what the strip holds in its front.
+-- The ring that a call has shown, where it answers a failing word and a length: what the strip holds in its at_front.
 pub record Shown (q : ℕ) (found : Result (Option (ℕ × List ℕ)) Refusal) (word len : ℕ) (strip : List ℕ) : Type 0 where
   pub ring : List ℕ
   pub is : found ≡ Ok (Some (word, ring))
@@ -91,13 +91,13 @@ counted-some (Ok (Some f)) w n e =
     (f.1, ap (λ (v : ℕ). Ok (Some (v, f.1))) (grind (arith, e)), grind (arith, e))
 counted-some (Err f) w n e = absurd (grind (arith, e))
 
-shown_in : (q w n : ℕ) (found : Result (Option (ℕ × List ℕ)) Refusal) (was strip : List ℕ) → Ok (Some (w, n)) ≡ with_length found → strip ≡ front (ring_written found) was →
+shown_in : (q w n : ℕ) (found : Result (Option (ℕ × List ℕ)) Refusal) (was strip : List ℕ) → Ok (Some (w, n)) ≡ with_length found → strip ≡ at_front (ring_written found) was →
     ((c : List ℕ) → found ≡ Ok (Some (w, c)) → (1 ≤ length c) × (length c ≤ 23) × Letters q c) → Shown q found w n strip
 shown_in q w n found was strip e s apart =
     let p = counted-some found w n e in
     let c = p.0 in
     let a = apart c p.1 in
-    let whole : strip ≡ front c was = s ∙ ap (λ (x : Result (Option (ℕ × List ℕ)) Refusal). front (ring_written x) was) p.1 in
+    let whole : strip ≡ at_front c was = s ∙ ap (λ (x : Result (Option (ℕ × List ℕ)) Refusal). at_front (ring_written x) was) p.1 in
     let longer = ap length whole ∙ length-append c (drop (length c) was) in
     record {
       ring = c;
@@ -119,7 +119,7 @@ passed q other m x y e = through (fitting q other m) e
 
 module _ {C : Type 0} (K : Kind C) (w n : ℕ) (s : Lent C) (strip : List ℕ) where
   pub judge-shown : (b : Bench K) → Lawful b.rule → Weighed b.density → Ok (Some (w, n)) ≡ with_length (judge_found b (length s.crossings) (length s.ring)) →
-      strip ≡ front (ring_written (judge_found b (length s.crossings) (length s.ring))) s.ring → Shown b.rule.q (judge_found b (length s.crossings) (length s.ring)) w n strip × (b.rule.q ≡ b.density.q)
+      strip ≡ at_front (ring_written (judge_found b (length s.crossings) (length s.ring))) s.ring → Shown b.rule.q (judge_found b (length s.crossings) (length s.ring)) w n strip × (b.rule.q ≡ b.density.q)
   judge-shown b lawful weighed e is =
       let c = counted-some (judge_found b (length s.crossings) (length s.ring)) w n e in
       let fit = fits b.rule.q b.density.q (b.rule.n + b.density.k - 1) (passed b.rule.q b.density.q (b.rule.n + b.density.k - 1) _ _ c.1) in
@@ -132,7 +132,7 @@ module _ {C : Type 0} (K : Kind C) (w n : ℕ) (s : Lent C) (strip : List ℕ) w
       )
 
   pub compare-shown : (d e : Weights K.group.Carrier) → Weighed d → Weighed e → Ok (Some (w, n)) ≡ with_length (compare_found K d e (length s.crossings) (length s.ring)) →
-      strip ≡ front (ring_written (compare_found K d e (length s.crossings) (length s.ring))) s.ring → Shown d.q (compare_found K d e (length s.crossings) (length s.ring)) w n strip × (d.q ≡ e.q)
+      strip ≡ at_front (ring_written (compare_found K d e (length s.crossings) (length s.ring))) s.ring → Shown d.q (compare_found K d e (length s.crossings) (length s.ring)) w n strip × (d.q ≡ e.q)
   compare-shown d e weighed weighed' h is =
       let c = counted-some (compare_found K d e (length s.crossings) (length s.ring)) w n h in
       let fit = fits d.q e.q (max d.k e.k) (passed d.q e.q (max d.k e.k) _ _ c.1) in (
@@ -162,8 +162,8 @@ module _ (r : Local) (ring : List ℕ) (shows : ShownRing r.q ring) (was : List 
   ready : ring_checked r.q (length was) ring ≡ Ok ring
   ready = ring_ready r.q (length was) ring shows.0 (omega (arith, shows.1)) (omega (arith, shows.1)) shows.2
 
-  pub next-given : (f : Refusal) → Err f ≡ done (ring_checked r.q (length was) ring) → ⊥
-  next-given f e = let clash : Err f ≡ Ok tt = e ∙ ap done ready in grind arith
+  pub next-given : (f : Refusal) → Err f ≡ passes (ring_checked r.q (length was) ring) → ⊥
+  next-given f e = let clash : Err f ≡ Ok tt = e ∙ ap passes ready in grind arith
 
   pub next-part : (strip : List ℕ) → strip ≡ strip_after (next r) was (ring_checked r.q (length was) ring) → take (length ring) strip ≡ next r ring
   next-part strip e =

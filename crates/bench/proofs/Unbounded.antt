@@ -19,7 +19,7 @@ use Rattle.criterion.proofs.Pads.{length_pad}
 use Rattle.bench.specs.Labels.{listed, rule_label, two_label}
 use Rattle.bench.specs.Benches.{total_before, total_after}
 use Rattle.bench.specs.Laws.{integers, whole, VerdictRight, ComparisonRight}
-use Rattle.bench.specs.Verdicts.{Broken, broken, verdict_of, comparison_of, Found, bench_checked, pair_checked, judge_found, compare_found}
+use Rattle.bench.specs.Verdicts.{Broken, broken, verdict_of, agreement_of, Found, bench_checked, pair_checked, judge_found, compare_found}
 use Rattle.bench.specs.Unbounded.{unbounded, whole_bench, whole_break, whole_judgement, whole_comparison, VerdictUnbounded, ComparisonUnbounded}
 use Rattle.bench.proofs.Readings.{Reads, zero-reads, signed-reads, tested-reads, sum-reads, crossing-reads, crossed-reads, whole-reads, total-reads, label_end, rule_label-reads, two_label-reads}
 use Rattle.bench.proofs.Rights.{verdict_right, comparison_right}
@@ -128,7 +128,7 @@ verdict-reads : (o : Option (Broken (Below (2 ^ 64)))) → whole_judgement (verd
 verdict-reads None = refl
 verdict-reads (Some b) = refl
 
-comparison-reads : (o : Option (Broken (Below (2 ^ 64)))) → whole_comparison (comparison_of o) ≡ comparison_of (option_map whole_break o)
+comparison-reads : (o : Option (Broken (Below (2 ^ 64)))) → whole_comparison (agreement_of o) ≡ agreement_of (option_map whole_break o)
 comparison-reads None = refl
 comparison-reads (Some b) = refl
 
@@ -169,7 +169,7 @@ comparison_unbounded d e weighed weighed' range range' crossing_room ring_room =
           subst (ComparisonRight unbounded (whole d) (whole e)) (sym found)
           (comparison_right unbounded crossing_room ring_room (whole d) (whole e) (weighed-whole d weighed) (weighed-whole e weighed'));
       answer =
-          said-whole comparison_of comparison_of whole_comparison comparison-reads (total voice_group d) (total voice_group e) (total integers (whole d)) (total integers (whole e))
+          said-whole agreement_of agreement_of whole_comparison comparison-reads (total voice_group d) (total voice_group e) (total integers (whole d)) (total integers (whole e))
           (compare_found voices d e crossing_room ring_room) (compare_found unbounded (whole d) (whole e) crossing_room ring_room) found
           (λ c is.
           let apart = subst (ComparisonRight voices d e) is (comparison_right voices crossing_room ring_room d e weighed weighed') in

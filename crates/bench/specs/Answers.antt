@@ -5,12 +5,12 @@ use Rattle.fault.specs.declared.Fault.{Fault}
 use Rattle.fault.specs.Refusals.{Refusal, refusal}
 use Rattle.charge.specs.Groups.{Kind}
 use Rattle.bench.specs.declared.state.Break.{Break}
-use Rattle.bench.specs.declared.state.Comparison.{Comparison as Compared}
+use Rattle.bench.specs.declared.state.Comparison.{Comparison}
 use Rattle.bench.specs.declared.state.Comparison.TheVariants.{Agree, Differ}
 use Rattle.bench.specs.declared.state.Refused.{Refused}
 use Rattle.bench.specs.declared.state.Verdict.{Verdict}
 use Rattle.bench.specs.declared.state.Verdict.TheVariants.{Holds, Breaks}
-use Rattle.bench.specs.Verdicts.{Broken, Judgement, holds, breaks, Comparison, agree, differ}
+use Rattle.bench.specs.Verdicts.{Broken, Judgement, holds, breaks, Agreement, agree, differ}
 
 -- what a break means
 abbrev pub break_means : {C : Type 0} → (K : Kind C) → Break C → Broken K.group.Carrier
@@ -24,12 +24,12 @@ abbrev pub verdict_means : {C H B : Type 0} → (K : Kind C) → Verdict C H B �
 verdict_means K (Holds h) = holds
 verdict_means K (Breaks b found) = breaks (break_means K found)
 
-abbrev pub comparison_means : {C : Type 0} → (K : Kind C) → Compared C → Comparison K.group.Carrier
+abbrev pub comparison_means : {C : Type 0} → (K : Kind C) → Comparison C → Agreement K.group.Carrier
 comparison_means K Agree = agree
 comparison_means K (Differ b) = differ (break_means K b)
 
 -- the difference that a comparison tells of, if it tells of one
-abbrev pub difference_of : {C : Type 0} → Compared C → Option (Break C)
+abbrev pub difference_of : {C : Type 0} → Comparison C → Option (Break C)
 difference_of Agree = None
 difference_of (Differ b) = Some b
 
@@ -43,7 +43,7 @@ abbrev pub judge_said : {C H B S : Type 0} → (K : Kind C) → Result (Verdict 
 judge_said K (Ok v) = Ok (verdict_means K v)
 judge_said K (Err e) = Err (refusal e.fault)
 
-abbrev pub compare_said : {C : Type 0} → (K : Kind C) → Result (Compared C) Fault → Result (Comparison K.group.Carrier) Refusal
+abbrev pub compare_said : {C : Type 0} → (K : Kind C) → Result (Comparison C) Fault → Result (Agreement K.group.Carrier) Refusal
 compare_said K (Ok v) = Ok (comparison_means K v)
 compare_said K (Err f) = Err (refusal f)
 

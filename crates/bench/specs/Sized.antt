@@ -2,10 +2,10 @@
 use Rattle.std.proofs.Common.{subst}
 use Rattle.std.specs.Prelude.{◌≡◌, ℕ, ◌+◌, ◌-◌, ◌^◌, ◌<◌, ◌≤◌, List, slice_index}
 use Rattle.fault.specs.Limits.{most_words}
-use Rattle.automaton.specs.declared.words.Words.{Words}
+use Rattle.automaton.specs.declared.word_set.WordSet.{WordSet}
 use Rattle.automaton.specs.Words.{code, word}
 use Rattle.automaton.specs.Tables.{length-table}
-use Rattle.automaton.specs.Meanings.{Local, Weights, DensitySizes}
+use Rattle.automaton.specs.Meanings.{Local, Weights, DensityLimits}
 use Rattle.criterion.specs.Labelled.{Labelled}
 use Rattle.bench.specs.declared.sizes.RuleSizes.{RuleSizes}
 use Rattle.bench.specs.declared.sizes.TwoSizes.{TwoSizes}
@@ -31,12 +31,12 @@ SizesOf s r d = (s.words.q ≡ r.q) × (s.n ≡ r.n) × (s.l ≡ r.l) × (s.k �
 abbrev pub TwoSizesOf : {A : Type 0} → TwoSizes → Weights A → Weights A → Type 0
 TwoSizesOf s d e = (s.words.q ≡ d.q) × (s.first ≡ d.k) × (s.second ≡ e.k) × (s.words.q ≡ e.q)
 
-pub listed-labelled : {A : Type 0} (q m : ℕ) (d : List ℕ → A) → DensitySizes q m → q ^ m ≤ most_words → Labelled (listed q m d)
+pub listed-labelled : {A : Type 0} (q m : ℕ) (d : List ℕ → A) → DensityLimits q m → q ^ m ≤ most_words → Labelled (listed q m d)
 listed-labelled q m d sizes few = record { sizes = sizes; few = few; each = length-table (q ^ m) (λ c. d (word q m c)) }
 
 -- a label on these words has a charge for each
-pub words-labelled : {A : Type 0} (w : Words) (m : ℕ) → w.m ≡ m → (d : List ℕ → A) → Labelled (listed w.q m d)
-words-labelled w m e d = listed-labelled w.q m d (subst (DensitySizes w.q) e w.sizes) (subst (λ n. w.q ^ n ≤ most_words) e w.few)
+pub words-labelled : {A : Type 0} (w : WordSet) (m : ℕ) → w.m ≡ m → (d : List ℕ → A) → Labelled (listed w.q m d)
+words-labelled w m e d = listed-labelled w.q m d (subst (DensityLimits w.q) e w.sizes) (subst (λ n. w.q ^ n ≤ most_words) e w.few)
 
 -- the code of the next letters of the word with a code
 abbrev pub next_word : RuleSizes → Local → ℕ → ℕ

@@ -3,7 +3,7 @@ use Rattle.std.specs.Prelude.{◌≡◌, ℕ, List, Ok, Err, Result}
 use Rattle.charge.specs.declared.Charge.{Ghosts as ChargeOf}
 use Rattle.automaton.specs.declared.rule.Rule.{Ghosts as RuleOf}
 use Rattle.automaton.specs.declared.density.Density.{Ghosts as DensityOf}
-use Rattle.bench.specs.declared.state.Parts.{Parts}
+use Rattle.bench.specs.declared.state.BenchParts.{BenchParts}
 use Rattle.bench.specs.declared.state.Draft.{Draft}
 use Rattle.bench.specs.declared.state.Holding.{Holding}
 use Rattle.bench.specs.declared.state.Breaking.{Breaking}
@@ -41,23 +41,23 @@ module _ {C R D : Type 0} {c : ChargeOf C} {r : RuleOf R} {d : DensityOf D C} wh
   density_of b = b.parts.density
 
   -- the two together, of a bench in each state and of a verdict, and the bench that a verdict is of
-  abbrev pub draft_parts : Draft C R D c r d → Parts R D
+  abbrev pub draft_parts : Draft C R D c r d → BenchParts R D
   draft_parts b = b.parts
 
-  abbrev pub holding_parts : Holding C R D c r d → Parts R D
+  abbrev pub holding_parts : Holding C R D c r d → BenchParts R D
   holding_parts b = b.parts
 
-  abbrev pub breaking_parts : Breaking C R D c r d → Parts R D
+  abbrev pub breaking_parts : Breaking C R D c r d → BenchParts R D
   breaking_parts b = b.parts
 
-  abbrev pub judged_parts : Verdict C (Holding C R D c r d) (Breaking C R D c r d) → Parts R D
+  abbrev pub judged_parts : Verdict C (Holding C R D c r d) (Breaking C R D c r d) → BenchParts R D
   judged_parts v = verdict_parts holding_parts breaking_parts v
 
   abbrev pub verdict_bench : Verdict C (Holding C R D c r d) (Breaking C R D c r d) → Bench c.kind
   verdict_bench v = let parts = judged_parts v in record { rule = r.meaning parts.rule; density = d.weights c.kind parts.density }
 
   -- a draft has the rule and the density that were handed in, and a refusal hands them back
-  abbrev pub HandsIn : R → D → Result (Draft C R D c r d) (Refused (Parts R D)) → Type 0
+  abbrev pub HandsIn : R → D → Result (Draft C R D c r d) (Refused (BenchParts R D)) → Type 0
   HandsIn rule density (Ok b) = draft_parts b ≡ record { rule = rule; density = density }
   HandsIn rule density (Err e) = e.state ≡ record { rule = rule; density = density }
 

@@ -13,7 +13,7 @@ use Rattle.criterion.specs.Search.{padding, crossings}
 use Rattle.bench.specs.Labels.{two_label_list}
 use Rattle.bench.specs.Benches.{Bench, bench_of, crossings_of}
 use Rattle.bench.specs.Laws.{integers, whole, VerdictRight, ComparisonRight}
-use Rattle.bench.specs.Verdicts.{Broken, Judgement, holds, breaks, Comparison, agree, differ, judge_found, judging, compare_found, comparing}
+use Rattle.bench.specs.Verdicts.{Broken, Judgement, holds, breaks, Agreement, agree, differ, judge_found, judging, compare_found, comparing}
 
 -- whole numbers without bounds as a kind of charge: each means itself
 abbrev pub unbounded : Kind ℤ
@@ -38,7 +38,7 @@ abbrev pub whole_judgement : Judgement (Below (2 ^ 64)) → Judgement ℤ
 whole_judgement holds = holds
 whole_judgement (breaks b) = breaks (whole_break b)
 
-abbrev pub whole_comparison : Comparison (Below (2 ^ 64)) → Comparison ℤ
+abbrev pub whole_comparison : Agreement (Below (2 ^ 64)) → Agreement ℤ
 whole_comparison agree = agree
 whole_comparison (differ b) = differ (whole_break b)
 

@@ -2,7 +2,7 @@
 use Rattle.std.specs.Prelude.{◌≡◌, ℕ, ◌+◌, ◌-◌, ◌≤◌, max, List, [], ◌∷◌, length, Some, None, Ok, Option, Result, ◌==◌}
 use Rattle.std.specs.Option.{option_map}
 use Rattle.fault.specs.declared.Stop.TheVariants.{AlphabetsDiffer, TooManyWords}
-use Rattle.fault.specs.Answers.{and_then, front}
+use Rattle.fault.specs.Answers.{and_then, at_front}
 use Rattle.fault.specs.Checks.{tested}
 use Rattle.fault.specs.Limits.{few_words}
 use Rattle.fault.specs.Refusals.{Refusal}
@@ -10,7 +10,7 @@ use Rattle.charge.specs.Groups.{Kind}
 use Rattle.automaton.specs.Words.{Letters}
 use Rattle.automaton.specs.Meanings.{Weights, total}
 use Rattle.criterion.specs.Answers.{examined, unless_refused, ring_written}
-use Rattle.criterion.specs.Strips.{FrontMeans}
+use Rattle.criterion.specs.ChargeStrips.{FrontMeans}
 use Rattle.criterion.specs.Search.{padding, most_shown, crossings}
 use Rattle.bench.specs.Labels.{two_label_list}
 use Rattle.bench.specs.Benches.{Bench, total_before, total_after, label_of, crossings_of}
@@ -29,9 +29,9 @@ pub data Judgement (A : Type 0) : Type 0 where
   breaks : Broken A → Judgement A
 
 -- what comparing says
-pub data Comparison (A : Type 0) : Type 0 where
-  agree : Comparison A
-  differ : Broken A → Comparison A
+pub data Agreement (A : Type 0) : Type 0 where
+  agree : Agreement A
+  differ : Broken A → Agreement A
 
 -- a ring that may be shown: of letters below q, with at least one cell and at most as many as any has that is shown
 abbrev pub ShownRing : ℕ → List ℕ → Type 0
@@ -46,9 +46,9 @@ abbrev pub verdict_of : {A : Type 0} → Option (Broken A) → Judgement A
 verdict_of None = holds
 verdict_of (Some b) = breaks b
 
-abbrev pub comparison_of : {A : Type 0} → Option (Broken A) → Comparison A
-comparison_of None = agree
-comparison_of (Some b) = differ b
+abbrev pub agreement_of : {A : Type 0} → Option (Broken A) → Agreement A
+agreement_of None = agree
+agreement_of (Some b) = differ b
 
 -- whether two parts have one alphabet, whose words of m letters are few
 abbrev pub fitting : ℕ → ℕ → ℕ → Result (Unit {0}) Refusal
@@ -89,8 +89,8 @@ module _ {C : Type 0} (K : Kind C) (d e : Weights K.group.Carrier) (crossing_roo
   abbrev pub compare_crossings : List K.group.Carrier
   compare_crossings = unless_refused compare_found (crossings K padding (two_label_list K.group d e))
 
-  abbrev pub comparing : Result (Comparison K.group.Carrier) Refusal
-  comparing = and_then compare_found (λ f. Ok (comparison_of (option_map (broken (total K.group d) (total K.group e)) f)))
+  abbrev pub comparing : Result (Agreement K.group.Carrier) Refusal
+  comparing = and_then compare_found (λ f. Ok (agreement_of (option_map (broken (total K.group d) (total K.group e)) f)))
 
 -- the two strips that a call is lent, for crossings and for a ring
 pub record Lent (C : Type 0) : Type 0 where
@@ -100,11 +100,11 @@ pub record Lent (C : Type 0) : Type 0 where
 abbrev pub lent : {C : Type 0} → List C → List ℕ → Lent C
 lent charges cells = record { crossings = charges; ring = cells }
 
--- what is left on the strips: the crossings and the ring that are written, each at the front of its strip, and none where
+-- what is left on the strips: the crossings and the ring that are written, each at the at_front of its strip, and none where
 -- the call is refused
 pub record Leaves {C : Type 0} (K : Kind C) (found : Found) (all : List K.group.Carrier) (old new : Lent C) : Type 0 where
   pub crossings : FrontMeans K (unless_refused found all) old.crossings new.crossings
-  pub ring : new.ring ≡ front (ring_written found) old.ring
+  pub ring : new.ring ≡ at_front (ring_written found) old.ring
 
 abbrev pub JudgeLeaves : {C : Type 0} {K : Kind C} → Bench K → Lent C → Lent C → Type 0
 JudgeLeaves {C} {K} b old new = Leaves K (judge_found b (length old.crossings) (length old.ring)) (crossings_of b) old new

@@ -1,6 +1,6 @@
 // Two densities, compared by their totals.
 ghost use Rattle.std.specs.Prelude.{◌≡◌, length};
-ghost use Rattle.criterion.specs.Answers.{seen, with_length};
+ghost use Rattle.criterion.specs.Answers.{failure_seen, with_length};
 ghost use Rattle.bench.specs.Answers.{compare_said};
 ghost use Rattle.bench.specs.Promises.{Compares};
 ghost use Rattle.bench.specs.Verdicts.{lent, compare_found, comparing, CompareLeaves};
@@ -23,7 +23,7 @@ fn compare_words<C: Charge, D: Density<C>, E: Density<C>>(
     ensures answer { let d = D.weights C.kind first.now in
         let e = E.weights C.kind second.now in
         let found = compare_found C.kind d e (length crossings.old) (length ring.old) in
-        seen result ≡ with_length found }
+        failure_seen result ≡ with_length found }
     ensures left { CompareLeaves C.kind (D.weights C.kind first.now) (E.weights C.kind second.now)
         (lent crossings.old ring.old) (lent crossings.new ring.new) }
 {

@@ -5,7 +5,7 @@ ghost use Rattle.bench.specs.Sized.{KnowsNext};
 use crate::next_words::NextWords;
 use crate::rule_label::RuleLabel;
 use crate::state::Holding;
-use automaton::{Density, Ring, Rule, Span, Words};
+use automaton::{Density, Ring, Rule, Span, WordSet};
 use charge::Charge;
 use criterion::crossing;
 
@@ -45,7 +45,7 @@ impl<C: Charge, R: Rule, D: Density<C>> Holding<C, R, D> {
     ) -> SiteCrossings<'a, C, R, D>
         ensures { holding_of result ≡ self.now }
     {
-        let Words { m, count, .. } = self.sizes.words;
+        let WordSet { m, count, .. } = self.sizes.words;
         if sites < count / m {
             return SiteCrossings {
                 bench: self,

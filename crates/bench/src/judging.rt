@@ -1,7 +1,7 @@
 // The bench, and its one verdict.
 ghost use Rattle.std.specs.Prelude.{◌≡◌, length, Ok};
 ghost use Rattle.automaton.specs.Making.{charged};
-ghost use Rattle.criterion.specs.Answers.{seen, with_length};
+ghost use Rattle.criterion.specs.Answers.{failure_seen, with_length};
 ghost use Rattle.bench.specs.Answers.{breaks_mean, verdict_means, draft_said, found_said, broken_said};
 ghost use Rattle.bench.specs.Benches.{bench_of, total_before, total_after};
 ghost use Rattle.bench.specs.Laws.{KnownBy};
@@ -12,7 +12,7 @@ ghost use Rattle.bench.specs.Verdicts.{ShownRing, bench_checked, broken, lent, j
 use crate::next_words::NextWords;
 use crate::rule_label::RuleLabel;
 use crate::sizes::RuleSizes;
-use crate::state::{Break, Breaking, Draft, Holding, Parts, Refused, Verdict};
+use crate::state::{Break, Breaking, Draft, Holding, BenchParts, Refused, Verdict};
 use automaton::{Density, Rule, next_ring, total};
 use charge::Charge;
 use criterion::{Failure, MOST_SHOWN, examine};
@@ -40,12 +40,12 @@ fn verdict_of<C: Charge, R: Rule, D: Density<C>>(
 
 impl<C: Charge, R: Rule, D: Density<C>> Draft<C, R, D> {
     // A bench of a rule and a density over one alphabet, whose words are few.
-    pub fn new(rule: R, density: D) -> Result<Draft<C, R, D>, Refused<Parts<R, D>>>
+    pub fn new(rule: R, density: D) -> Result<Draft<C, R, D>, Refused<BenchParts<R, D>>>
         ensures answer { draft_said result
             ≡ bench_checked (bench_of C.kind (R.meaning rule) (D.weights C.kind density)) }
         ensures handed { HandsIn rule density result }
     {
-        let parts = Parts { rule, density };
+        let parts = BenchParts { rule, density };
         match RuleSizes::of(&parts) {
             Ok(sizes) => Ok(Draft {
                 parts,
@@ -89,7 +89,7 @@ impl<C: Charge, R: Rule, D: Density<C>> Draft<C, R, D> {
     // references.
     fn judge_words(&self, crossings: &mut [C], ring: &mut [u8]) -> Result<Option<Failure>, Fault>
         ensures answer { let b = draft_bench self.now in
-            seen result ≡ with_length (judge_found b (length crossings.old) (length ring.old)) }
+            failure_seen result ≡ with_length (judge_found b (length crossings.old) (length ring.old)) }
         ensures left { JudgeLeaves (draft_bench self.now)
             (lent crossings.old ring.old) (lent crossings.new ring.new) }
     {

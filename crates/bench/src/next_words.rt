@@ -5,7 +5,7 @@ ghost use Rattle.fault.specs.Limits.{most_words};
 ghost use Rattle.bench.specs.Sized.{sized_rule, next_word, KnowsNext};
 
 use crate::sizes::RuleSizes;
-use crate::state::Parts;
+use crate::state::BenchParts;
 use automaton::Rule;
 use fault::limits::MOST_WORDS;
 
@@ -27,7 +27,7 @@ impl NextWords {
     }
 }
 
-impl<R: Rule, D> Parts<R, D> {
+impl<R: Rule, D> BenchParts<R, D> {
     // The answer for the last n letters of a word.
     fn last_letter(&self, sizes: RuleSizes, code: usize) -> u8
         ensures { result

@@ -3,7 +3,7 @@ ghost use Rattle.std.specs.Prelude.{◌≡◌, ◌+◌, ◌-◌, ◌/◌, ◌%�
 ghost use Rattle.bench.specs.Sized.{next_word, KnowsNext};
 
 use crate::sizes::RuleSizes;
-use crate::state::Parts;
+use crate::state::BenchParts;
 use automaton::{Density, Rule};
 use charge::{Charge, difference};
 use criterion::Label;
@@ -12,7 +12,7 @@ use criterion::Label;
 // those of the first words, and asks the rule for those of others.
 #[derive(Drop)]
 pub struct RuleLabel<'a, R: Rule, D> {
-    pub(crate) parts: &'a Parts<R, D>,
+    pub(crate) parts: &'a BenchParts<R, D>,
     pub(crate) sizes: RuleSizes,
     pub(crate) nexts: &'a [u16],
     ghost words: { length nexts.now ≤ sizes.words.count },

@@ -4,9 +4,9 @@ ghost use Rattle.fault.specs.Answers.{plainly, and_then};
 ghost use Rattle.fault.specs.Refusals.{refusal};
 ghost use Rattle.bench.specs.Verdicts.{fitting, bench_checked, pair_checked};
 
-use crate::parts::Part;
-use crate::state::Parts;
-use automaton::{Density, Rule, Words};
+use crate::subword::Subword;
+use crate::state::BenchParts;
+use automaton::{Density, Rule, WordSet};
 use charge::Charge;
 use fault::limits::word_count;
 use fault::{Fault, Stop};
@@ -16,11 +16,11 @@ use fault::{Fault, Stop};
 // but one. A label keeps sizes of its own, since its laws are for every `Kind` of its charges, and the tests for one.
 #[derive(Clone, Copy)]
 pub struct RuleSizes {
-    pub(crate) words: Words,
+    pub(crate) words: WordSet,
     pub(crate) n: usize,
     pub(crate) l: usize,
     pub(crate) k: usize,
-    pub(crate) weighed: Part,
+    pub(crate) weighed: Subword,
     pub(crate) windows: usize,
     pub(crate) kept: usize,
     ghost reach: { l < n },
@@ -34,11 +34,11 @@ pub struct RuleSizes {
 // The sizes of the label of two densities: its words, the two widths, and the parts of a word that the two weigh.
 #[derive(Clone, Copy)]
 pub struct TwoSizes {
-    pub(crate) words: Words,
+    pub(crate) words: WordSet,
     pub(crate) first: usize,
     pub(crate) second: usize,
-    pub(crate) first_front: Part,
-    pub(crate) second_front: Part,
+    pub(crate) first_front: Subword,
+    pub(crate) second_front: Subword,
     ghost larger: { words.m ≡ max first second },
     ghost fronts: { (first_front.after ≡ words.q ^ (words.m - first))
         × (first_front.count ≡ words.q ^ first)
@@ -61,7 +61,7 @@ impl RuleSizes {
 
     // The sizes of the label of a rule under a density, where they make a bench.
     pub(crate) fn of<C: Charge, R: Rule, D: Density<C>>(
-        parts: &Parts<R, D>,
+        parts: &BenchParts<R, D>,
     ) -> Result<RuleSizes, Fault>
         ensures { let b = bench_of C.kind (R.meaning parts.now.rule)
             (D.weights C.kind parts.now.density) in
@@ -74,14 +74,14 @@ impl RuleSizes {
         let k = parts.density.k();
         let m = n + k - 1;
         let count = common_words(q, parts.density.q(), m)?;
-        let words = Words { q, m, count };
+        let words = WordSet { q, m, count };
         let l = parts.rule.l();
         Ok(RuleSizes {
             words,
             n,
             l,
             k,
-            weighed: Part::of(words, k, n - 1 - l),
+            weighed: Subword::of(words, k, n - 1 - l),
             windows: q.pow(n as u32),
             kept: q.pow((k - 1) as u32),
         })
@@ -105,15 +105,15 @@ impl TwoSizes {
         let q = first.q();
         let m = first.k().max(second.k());
         let count = common_words(q, second.q(), m)?;
-        let words = Words { q, m, count };
+        let words = WordSet { q, m, count };
         let first = first.k();
         let second = second.k();
         Ok(TwoSizes {
             words,
             first,
             second,
-            first_front: Part::of(words, first, m - first),
-            second_front: Part::of(words, second, m - second),
+            first_front: Subword::of(words, first, m - first),
+            second_front: Subword::of(words, second, m - second),
         })
     }
 }

@@ -11,7 +11,7 @@ use std::marker::PhantomData;
 
 // A rule and a density.
 #[derive(Drop)]
-pub struct Parts<R, D> {
+pub struct BenchParts<R, D> {
     pub rule: R,
     pub density: D,
 }
@@ -19,7 +19,7 @@ pub struct Parts<R, D> {
 // A bench that has not been judged: a rule and a density over one alphabet, whose words are few.
 #[derive(Drop)]
 pub struct Draft<C: Charge, R: Rule, D: Density<C>> {
-    pub(crate) parts: Parts<R, D>,
+    pub(crate) parts: BenchParts<R, D>,
     pub(crate) sizes: RuleSizes,
     pub(crate) kind: PhantomData<C>,
     ghost sized: { SizesOf sizes (R.meaning parts.rule) (D.weights C.kind parts.density) },
@@ -28,7 +28,7 @@ pub struct Draft<C: Charge, R: Rule, D: Density<C>> {
 // A bench on which no ring changes its total: its type says so, and none can be made of another bench.
 #[derive(Drop)]
 pub struct Holding<C: Charge, R: Rule, D: Density<C>> {
-    pub(crate) parts: Parts<R, D>,
+    pub(crate) parts: BenchParts<R, D>,
     pub(crate) sizes: RuleSizes,
     pub(crate) kind: PhantomData<C>,
     ghost sized: { SizesOf sizes (R.meaning parts.rule) (D.weights C.kind parts.density) },
@@ -39,7 +39,7 @@ pub struct Holding<C: Charge, R: Rule, D: Density<C>> {
 // A bench on which some ring changes its total: its type says so, too.
 #[derive(Drop)]
 pub struct Breaking<C: Charge, R: Rule, D: Density<C>> {
-    pub(crate) parts: Parts<R, D>,
+    pub(crate) parts: BenchParts<R, D>,
     pub(crate) kind: PhantomData<C>,
     pub ghost breaks: { SomeChanges C.kind.group (R.meaning parts.rule)
         (D.weights C.kind parts.density) },

@@ -3,7 +3,7 @@ use Rattle.std.proofs.Common.{◌≡◌, ℕ, ◌+◌, ◌-◌, ◌*◌, ◌^◌
 use Rattle.std.proofs.lemmas.Bool.{le-leb, lt-leb, leb-false}
 use Rattle.fault.specs.declared.Fault.{Fault}
 use Rattle.fault.specs.declared.Stop.TheVariants.{ShortStrip}
-use Rattle.fault.specs.Answers.{and_then, front}
+use Rattle.fault.specs.Answers.{and_then, at_front}
 use Rattle.fault.specs.Limits.{most_words}
 use Rattle.fault.specs.Refusals.{refused_at}
 use Rattle.charge.specs.Groups.{Kind}
@@ -17,7 +17,7 @@ use Rattle.bench.specs.declared.state.Break.{Break}
 use Rattle.bench.specs.Labels.{rule_label_list}
 use Rattle.bench.specs.Benches.{bench_of}
 use Rattle.bench.specs.Verdicts.{lent, bench_checked}
-use Rattle.preset_bench.specs.Finds.{JudgeFinds, preset_bench, preset_rule, preset_density, preset_checked, preset_found}
+use Rattle.preset_bench.specs.Finds.{JudgeFinds, preset_bench, preset_rule, preset_density, bench_checked_of, preset_found}
 use Rattle.preset_bench.proofs.Counts.{counted, crossings_few}
 use Rattle.capi.specs.declared.answers.JudgeAnswer.{JudgeAnswer}
 use Rattle.capi.specs.Judging.{JudgedOn, told_of}
@@ -37,7 +37,7 @@ module _ {C : Type 0} (K : Kind C) (h : Header) (letters : List ℕ) (charges : 
       let r = preset_rule h letters in
       let d = preset_density K h charges in
       let label = rule_label_list K.group r d in
-      ap (λ (b : Bool). and_then (preset_checked K h letters charges) (λ _. and_then (bench_checked (bench_of K r d)) (λ _.
+      ap (λ (b : Bool). and_then (bench_checked_of K h letters charges) (λ _. and_then (bench_checked (bench_of K r d)) (λ _.
       cond (b && nat_le (2 * label.k - 1) cells) (Ok (failure K padding label)) (Err (refused_at ShortStrip 0)))))
       (le-min (h.q ^ (h.n + h.k - 1 - 1)) room most_words (crossings_few h sized))
 
@@ -45,7 +45,7 @@ module _ {C : Type 0} (K : Kind C) (h : Header) (letters : List ℕ) (charges : 
       → map S.entry charges ≡ entries → length work ≡ min (length old) most_words
       → JudgeFinds (preset_bench K h letters charges) (preset_found K h letters charges (length work) (length strip)) (lent work strip) (lent now ring) verdict
       → MatchResult verdict (λ _. count ≡ h.q ^ (h.n + h.k - 1 - 1)) (λ _. count ≡ 0)
-      → new ≡ front (map S.entry (take count now)) old
+      → new ≡ at_front (map S.entry (take count now)) old
       → answer ≡ told_of S verdict
       → JudgedOn K S h letters entries old new strip ring answer
   judged-on S entries old new strip ring work now verdict count answer sent size finds many written told =

@@ -14,7 +14,7 @@ use Rattle.bench.specs.Benches.{bench_of}
 use Rattle.bench.specs.Laws.{VerdictRight}
 use Rattle.bench.specs.Verdicts.{Judgement, Broken, bench_checked, broken}
 use Rattle.bench.specs.Verdicts.Judgement.{holds, breaks}
-use Rattle.player.specs.Calls.{Strips}
+use Rattle.player.specs.Calls.{PlayerStrips}
 use Rattle.player.specs.Logs.{OnEveryLine, WithoutGaps, LineTrue}
 use Rattle.player.specs.Whole.{LogTrue}
 use Rattle.player.proofs.Whole.{verdict_on, log_true}
@@ -40,7 +40,7 @@ unfolding break_in
 break-means K (Holds h) = refl
 break-means K (Breaks b found) = refl
 
-module _ {C : Type 0} (K : Kind C) (S : Sending C) (r : Local) (d : Weights K.group.Carrier) (handed : Strips K.group.Carrier) (script : List Asking)
+module _ {C : Type 0} (K : Kind C) (S : Sending C) (r : Local) (d : Weights K.group.Carrier) (handed : PlayerStrips K.group.Carrier) (script : List Asking)
     (lawful : Lawful r) (weighed : Weighed d) (passed : bench_checked (bench_of K r d) ≡ Ok tt)
     (found : Result (Option (ℕ × List ℕ)) Refusal) (right : VerdictRight (bench_of K r d) found) (cells : List ℕ) (old new : List ScriptAnswer) where
   abbrev now : List ℕ → K.group.Carrier

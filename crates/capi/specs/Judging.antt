@@ -1,7 +1,7 @@
 -- What judging a preset answers and writes. Assumes nothing.
 use Rattle.std.specs.Prelude.{◌≡◌, ℕ, List, map, length, Ok, Err, Option, Result}
 use Rattle.fault.specs.declared.Fault.{Fault}
-use Rattle.fault.specs.Answers.{plainly, front}
+use Rattle.fault.specs.Answers.{plainly, at_front}
 use Rattle.fault.specs.Refusals.{Refusal}
 use Rattle.charge.specs.Groups.{Kind}
 use Rattle.charge.specs.Kinds.{voices, pitch, channels, both}
@@ -31,7 +31,7 @@ abbrev pub told_of : {C : Type 0} → Sending C → Result (Option (Break C)) Fa
 told_of S verdict = judge_answer (plainly (sent_found S verdict))
 
 -- A preset of one kind, judged on a strip for crossings and one for a ring: some charges that are sent as its entries are
--- judged, and entries of charges that mean the crossings stand at the front of the first strip.
+-- judged, and entries of charges that mean the crossings stand at the at_front of the first strip.
 module _ {C : Type 0} (K : Kind C) (S : Sending C) (h : Header) (letters : List ℕ) (entries old new : List Entry) (strip ring : List ℕ) where
   abbrev pub found_on : List C → Result (Option (ℕ × List ℕ)) Refusal
   found_on charges = preset_found K h letters charges (length old) (length strip)
@@ -44,8 +44,8 @@ module _ {C : Type 0} (K : Kind C) (S : Sending C) (h : Header) (letters : List 
     pub told : answer ≡ told_of S verdict
     pub crossed : List C
     pub meant : map K.means crossed ≡ unless_refused (found_on charges) (crossings K padding (rule_label_list K.group (preset_rule h letters) (preset_density K h charges)))
-    pub written : new ≡ front (map S.entry crossed) old
-    pub shown : ring ≡ front (ring_written (found_on charges)) strip
+    pub written : new ≡ at_front (map S.entry crossed) old
+    pub shown : ring ≡ at_front (ring_written (found_on charges)) strip
 
 -- of any kind
 abbrev pub JudgedAs : ChargeKind → Header → List ℕ → List Entry → List Entry → List Entry → List ℕ → List ℕ → JudgeAnswer → Type 0

@@ -2,7 +2,7 @@
 use Rattle.std.specs.Prelude.{◌≡◌, ℕ, List, map, length, Some, None, Ok, Err, Option, Result}
 use Rattle.std.specs.Option.{option_map}
 use Rattle.fault.specs.declared.Fault.{Fault}
-use Rattle.fault.specs.Answers.{front}
+use Rattle.fault.specs.Answers.{at_front}
 use Rattle.fault.specs.Limits.{most_words}
 use Rattle.fault.specs.Refusals.{Refusal}
 use Rattle.charge.specs.Groups.{Kind}
@@ -17,8 +17,8 @@ use Rattle.preset.specs.declared.entry.Entry.{Entry}
 use Rattle.preset.specs.declared.header.Header.{Header}
 use Rattle.bench.specs.declared.state.Break.{Break}
 use Rattle.player.specs.declared.call.Answer.{Answer}
-use Rattle.player.specs.Answers.{answered}
-use Rattle.player.specs.Calls.{Strips}
+use Rattle.player.specs.Answers.{answer_meant}
+use Rattle.player.specs.Calls.{PlayerStrips}
 use Rattle.player.specs.Logs.{OnEveryLine, WithoutGaps, LineTrue}
 use Rattle.player.specs.Whole.{with_answers}
 use Rattle.preset_bench.specs.Finds.{preset_rule, preset_density, preset_found}
@@ -28,12 +28,12 @@ use Rattle.capi.specs.Answers.{judge_answer, script_answer}
 use Rattle.capi.specs.Judging.{VerdictIs, told_of}
 use Rattle.capi.specs.Scripts.{Asking, zeroed, session}
 
-module _ {C : Type 0} (K : Kind C) (S : Sending C) (r : Local) (d : Weights K.group.Carrier) (handed : Strips K.group.Carrier) (script : List Asking) where
-  -- some answers that are the session's stand at the front of the strip of answers, and the cells are the session's
+module _ {C : Type 0} (K : Kind C) (S : Sending C) (r : Local) (d : Weights K.group.Carrier) (handed : PlayerStrips K.group.Carrier) (script : List Asking) where
+  -- some answers that are the session's stand at the at_front of the strip of answers, and the cells are the session's
   pub record Answered (cells : List ℕ) (old new : List ScriptAnswer) : Type 0 where
     pub given : List (Option (Answer C))
-    pub said : map (option_map (answered K)) given ≡ (session K r d handed script).said
-    pub answers : new ≡ front (map (script_answer S) given) old
+    pub said : map (option_map (answer_meant K)) given ≡ (session K r d handed script).said
+    pub answers : new ≡ at_front (map (script_answer S) given) old
     pub cells_left : cells ≡ (session K r d handed script).strips.cells
 
   -- unless the bench breaks, and then nothing is written
@@ -58,7 +58,7 @@ module _ {C : Type 0} (K : Kind C) (S : Sending C) (r : Local) (d : Weights K.gr
 -- the answers.
 module _ {C : Type 0} (K : Kind C) (S : Sending C) (h : Header) (letters : List ℕ) (entries : List Entry) (script : List Asking)
     (left : List ℕ) (old new : List ScriptAnswer) where
-  pub record PlayedOn (handed : Strips K.group.Carrier) (answer : JudgeAnswer) : Type 0 where
+  pub record PlayedOn (handed : PlayerStrips K.group.Carrier) (answer : JudgeAnswer) : Type 0 where
     pub charges : List C
     pub sent : map S.entry charges ≡ entries
     pub verdict : Result (Option (Break C)) Fault

@@ -9,11 +9,11 @@ use Rattle.fault.specs.Refusals.{Refusal, refusal}
 use Rattle.charge.specs.Groups.{Kind}
 use Rattle.automaton.specs.Meanings.{Local, Weights}
 use Rattle.std.specs.Option.{option_map}
-use Rattle.player.specs.declared.call.Call.{Call as Asked}
-use Rattle.player.specs.Answers.{asked}
-use Rattle.player.specs.Calls.{Call, Answer, Strips}
-use Rattle.player.specs.Calls.Call.{opens, touches, steps, reads, closes}
-use Rattle.player.specs.Calls.Answer.{refused}
+use Rattle.player.specs.declared.call.Call.{Call}
+use Rattle.player.specs.Answers.{call_meant}
+use Rattle.player.specs.Calls.{PlayerCall, PlayerAnswer, PlayerStrips}
+use Rattle.player.specs.Calls.PlayerCall.{opens, touches, steps, reads, closes}
+use Rattle.player.specs.Calls.PlayerAnswer.{refused}
 use Rattle.player.specs.Logs.{allowed, standing}
 use Rattle.player.specs.Logs.Log.{made}
 use Rattle.player.specs.Scripts.{Played, said_to, left_by, cells_after, played_more}
@@ -21,7 +21,7 @@ use Rattle.capi.specs.declared.script.ScriptCall.{ScriptCall}
 
 -- what a struct asks: a call of the player's, nothing, or an open that has no ring to hand over, by its refusal
 abbrev pub Asking : Type 0
-Asking = Result (Option Call) Refusal
+Asking = Result (Option PlayerCall) Refusal
 
 -- A ring from the letters of all rings. First its length is tested, and then whether they reach so far.
 abbrev pub ring_at : List ℕ → ℕ → ℕ → Result (List ℕ) Refusal
@@ -40,20 +40,20 @@ script_call letters c =
     (Ok None)))))
 
 -- the same of what the code makes of a struct
-abbrev pub asks : Result (Option Asked) Fault → Asking
-asks (Ok call) = Ok (option_map asked call)
+abbrev pub asks : Result (Option Call) Fault → Asking
+asks (Ok call) = Ok (option_map call_meant call)
 asks (Err f) = Err (refusal f)
 
 -- what an open that is refused is answered where a ring of L cells is open: nothing, unless the states allow open there
-abbrev pub refused_open : {A : Type 0} → ℕ → Refusal → Option (Answer A)
+abbrev pub refused_open : {A : Type 0} → ℕ → Refusal → Option (PlayerAnswer A)
 refused_open L f = cond (allowed (opens []) L) (Some (refused f)) None
 
 -- an answer that is no line of the log
-abbrev pub unplayed : {A : Type 0} → Played A → Option (Answer A) → Played A
+abbrev pub unplayed : {A : Type 0} → Played A → Option (PlayerAnswer A) → Played A
 unplayed p a = record { log = p.log; strips = p.strips; said = p.said ++ (a ∷ []) }
 
 -- strips with the caller's cells; the others are of zeros and as long as the longest ring
-abbrev pub zeroed : {C : Type 0} → (K : Kind C) → List ℕ → Strips K.group.Carrier
+abbrev pub zeroed : {C : Type 0} → (K : Kind C) → List ℕ → PlayerStrips K.group.Carrier
 zeroed K cells = record {
   cells = cells;
   spare = replicate most_cells 0;
@@ -70,11 +70,11 @@ module _ {C : Type 0} (K : Kind C) (r : Local) (d : Weights K.group.Carrier) whe
   obeyed p (Err f) = unplayed p (refused_open (length (standing p.log).cells) f)
 
   -- a script played from the making of a bench on
-  abbrev pub session : Strips K.group.Carrier → List Asking → Played K.group.Carrier
+  abbrev pub session : PlayerStrips K.group.Carrier → List Asking → Played K.group.Carrier
   session s script = fold obeyed (record { log = made; strips = s; said = [] }) script
 
   -- what is answered where a ring of L cells is open, how the strips are left, and how many cells the ring has then
-  abbrev pub Obeys : ℕ → Strips K.group.Carrier → Asking → Option (Answer K.group.Carrier) → Strips K.group.Carrier → ℕ → Type 0
+  abbrev pub Obeys : ℕ → PlayerStrips K.group.Carrier → Asking → Option (PlayerAnswer K.group.Carrier) → PlayerStrips K.group.Carrier → ℕ → Type 0
   Obeys L s (Ok (Some call)) said left cells = (said ≡ said_to K r d L call s) × (left ≡ left_by K r d L call s) × (cells ≡ cells_after K r d L call s)
   Obeys L s (Ok None) said left cells = (said ≡ None) × (left ≡ s) × (cells ≡ L)
   Obeys L s (Err f) said left cells = (said ≡ refused_open L f) × (left ≡ s) × (cells ≡ L)

@@ -1,7 +1,7 @@
 // A preset of one kind, judged on lent strips of charges.
 ghost use Rattle.std.specs.Prelude.{◌≡◌, ◌+◌, ◌-◌, ◌^◌, ◌≤◌, map, length, MatchResult};
 ghost use Rattle.fault.specs.Limits.{most_words};
-ghost use Rattle.fault.specs.Answers.{front};
+ghost use Rattle.fault.specs.Answers.{at_front};
 ghost use Rattle.preset.specs.Sizes.{Sized};
 ghost use Rattle.capi.specs.Judging.{JudgedOn};
 
@@ -28,7 +28,7 @@ fn crossing_count<C: Charge>(header: Header, found: &Result<Option<Break<C>>, Fa
 // Writes the entries that charges are sent as to the front of a strip, which has room.
 fn write_entries<C: Sent>(charges: &[C], strip: &mut [Entry])
     requires { length charges.now ≤ length strip.old }
-    ensures { strip.new ≡ front (map C.sending.entry charges.now) strip.old }
+    ensures { strip.new ≡ at_front (map C.sending.entry charges.now) strip.old }
 {
     for (i, charge) in charges.iter().enumerate() {
         strip[i] = charge.to_entry();

@@ -4,10 +4,10 @@ ghost use Rattle.capi.specs.Judging.{JudgeTells};
 
 use crate::answers::{JudgeAnswer, refused};
 use crate::judge_kinds::judge_kind;
-use preset::{Entry, Strips};
+use preset::{Entry, PresetStrips};
 
 // Judges the preset that the bytes are. In either verdict the crossings stand at the front of a strip afterwards, and on a
-// break the ring that shows it at the front of another. Strips too short are refused. A refusal writes nothing.
+// break the ring that shows it at the front of another. PresetStrips too short are refused. A refusal writes nothing.
 #[unsafe(no_mangle)]
 pub extern "C" fn ringbench_judge(
     bytes: &[u8],
@@ -17,7 +17,7 @@ pub extern "C" fn ringbench_judge(
     ensures { JudgeTells (whole_preset bytes.now)
         crossings.old crossings.new ring.old ring.new result }
 {
-    let mut strips = Strips::new();
+    let mut strips = PresetStrips::new();
     match strips.read(bytes) {
         Ok(preset) => judge_kind(preset, crossings, ring),
         Err(fault) => refused(fault),

@@ -2,7 +2,7 @@
 ghost use Rattle.std.specs.Prelude.{◌≡◌, ◌≤◌, map, length};
 ghost use Rattle.std.specs.Option.{option_map};
 ghost use Rattle.bench.specs.States.{holding_bench};
-ghost use Rattle.player.specs.Answers.{answered, open_cells};
+ghost use Rattle.player.specs.Answers.{answer_meant, open_cells};
 ghost use Rattle.player.specs.Promises.{all_strips, meant, player_ring, player_holding, ring_len};
 ghost use Rattle.fault.specs.Refusals.{refusal};
 ghost use Rattle.capi.specs.Scripts.{asks, script_call, refused_open, Obeys};
@@ -22,7 +22,7 @@ fn refused_open<C: Charge, R: Rule, D: Density<C>>(
     player: &PlayerOf<C, R, D>,
     fault: Fault,
 ) -> Option<Answer<C>>
-    ensures { option_map (answered C.kind) result
+    ensures { option_map (answer_meant C.kind) result
         ≡ refused_open (open_cells ring_len player.now) (refusal fault) }
 {
     match player {
@@ -44,7 +44,7 @@ fn answer_one<C: Charge, R: Rule, D: Density<C>>(
     ensures obeys { let ring = player_ring player in
         Obeys C.kind ring.bench.rule ring.bench.density ring.len
         (meant C.kind (all_strips cells.old spare.old opening.old crossed.old touched.old))
-        (asks asked.entry) (option_map (answered C.kind) result.1)
+        (asks asked.entry) (option_map (answer_meant C.kind) result.1)
         (meant C.kind (all_strips cells.new spare.new opening.new crossed.new touched.new))
         (open_cells ring_len result.0) }
     ensures bench { player_holding result.0 ≡ player_holding player }

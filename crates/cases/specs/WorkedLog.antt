@@ -6,15 +6,15 @@ use Rattle.charge.specs.Kinds.{voices}
 use Rattle.automaton.specs.Meanings.{Lawful, Weighed}
 use Rattle.bench.specs.Laws.{KeepsTotal}
 use Rattle.bench.specs.Verdicts.{bench_checked}
-use Rattle.player.specs.Calls.{Call, Answer, Strips}
-use Rattle.player.specs.Calls.Call.{opens, touches, steps, reads, closes}
-use Rattle.player.specs.Calls.Answer.{done, reading, refused}
-use Rattle.player.specs.Logs.{Line, Log, OnEveryLine, WithoutGaps, LineTrue}
+use Rattle.player.specs.Calls.{PlayerCall, PlayerAnswer, PlayerStrips}
+use Rattle.player.specs.Calls.PlayerCall.{opens, touches, steps, reads, closes}
+use Rattle.player.specs.Calls.PlayerAnswer.{done, reading, refused}
+use Rattle.player.specs.Logs.{LogLine, Log, OnEveryLine, WithoutGaps, LineTrue}
 use Rattle.player.specs.Logs.Log.{made, ◌then◌}
 use Rattle.cases.specs.Examples.{Count, count, elementary, letter_count, counting}
 
 -- strips as long as the ring or longer; what stands past the ring stays
-abbrev pub blank : Strips Count
+abbrev pub blank : PlayerStrips Count
 blank = record {
   cells = 9 ∷ 9 ∷ 9 ∷ 9 ∷ 7 ∷ [];
   spare = 9 ∷ 9 ∷ 9 ∷ 9 ∷ 6 ∷ [];
@@ -23,7 +23,7 @@ blank = record {
   touched = map count (5 ∷ 5 ∷ 5 ∷ 5 ∷ 3 ∷ []);
 }
 
-abbrev pub after_open : Strips Count
+abbrev pub after_open : PlayerStrips Count
 after_open = record {
   cells = 1 ∷ 1 ∷ 0 ∷ 0 ∷ 7 ∷ [];
   spare = 9 ∷ 9 ∷ 9 ∷ 9 ∷ 6 ∷ [];
@@ -33,7 +33,7 @@ after_open = record {
 }
 
 -- by the ring that the step makes
-abbrev pub after_step : List ℕ → Strips Count
+abbrev pub after_step : List ℕ → PlayerStrips Count
 after_step ring = record {
   cells = ring ++ (7 ∷ []);
   spare = 1 ∷ 1 ∷ 0 ∷ 0 ∷ 6 ∷ [];
@@ -42,7 +42,7 @@ after_step ring = record {
   touched = map count (0 ∷ 0 ∷ 0 ∷ 0 ∷ 3 ∷ []);
 }
 
-abbrev pub after_touch : Strips Count
+abbrev pub after_touch : PlayerStrips Count
 after_touch = record {
   cells = 1 ∷ 1 ∷ 1 ∷ 0 ∷ 7 ∷ [];
   spare = 1 ∷ 1 ∷ 0 ∷ 0 ∷ 6 ∷ [];
@@ -52,7 +52,7 @@ after_touch = record {
 }
 
 -- a ring of one cell
-abbrev pub after_open_one : Strips Count
+abbrev pub after_open_one : PlayerStrips Count
 after_open_one = record {
   cells = 1 ∷ 9 ∷ 9 ∷ 9 ∷ 7 ∷ [];
   spare = 9 ∷ 9 ∷ 9 ∷ 9 ∷ 6 ∷ [];
@@ -61,7 +61,7 @@ after_open_one = record {
   touched = map count (0 ∷ 5 ∷ 5 ∷ 5 ∷ 3 ∷ []);
 }
 
-abbrev pub after_step_one : Strips Count
+abbrev pub after_step_one : PlayerStrips Count
 after_step_one = record {
   cells = 1 ∷ 9 ∷ 9 ∷ 9 ∷ 7 ∷ [];
   spare = 1 ∷ 9 ∷ 9 ∷ 9 ∷ 6 ∷ [];
@@ -71,19 +71,19 @@ after_step_one = record {
 }
 
 -- the strips that a touch looks at, and no others
-abbrev pub touch_only : List ℕ → List ℕ → Strips Count
+abbrev pub touch_only : List ℕ → List ℕ → PlayerStrips Count
 touch_only cells touched = record { cells = cells; spare = []; opening = []; crossed = []; touched = map count touched }
 
-abbrev pub line : Call → Strips Count → Answer Count → Strips Count → Line Count
+abbrev pub line : PlayerCall → PlayerStrips Count → PlayerAnswer Count → PlayerStrips Count → LogLine Count
 line call handed said left = record { call = call; handed = handed; got = record { said = said; left = left } }
 
 -- a site's opening, crossed and touched counts and its count now
-abbrev pub counts : ℕ → ℕ → ℕ → ℕ → Answer Count
+abbrev pub counts : ℕ → ℕ → ℕ → ℕ → PlayerAnswer Count
 counts o c t n = reading (count o) (count c) (count t) (count n)
 
 -- The log of a session, by the ring that its step makes and what is read: at sites 1 and 2 after the step, and at
 -- site 1 after the touch.
-abbrev pub session : List ℕ → Answer Count → Answer Count → Answer Count → Log Count
+abbrev pub session : List ℕ → PlayerAnswer Count → PlayerAnswer Count → PlayerAnswer Count → Log Count
 session ring read_1 read_2 read_touched =
     made
     then line (opens (1 ∷ 2 ∷ 0 ∷ 0 ∷ [])) blank (refused (refused_at BadLetter 1)) blank

@@ -8,7 +8,7 @@ ghost use Rattle.criterion.specs.Search.{padding, sums_to_zero};
 ghost use Rattle.bench.specs.Benches.{label_of};
 ghost use Rattle.bench.specs.Laws.{integers};
 ghost use Rattle.bench.specs.Verdicts.{holds, agree, judge_found, judge_crossings, judging, compare_crossings, comparing};
-ghost use Rattle.preset.specs.Numbers.{number as numeral, spell};
+ghost use Rattle.preset.specs.Numbers.{number_read, spell};
 ghost use Rattle.preset.specs.Presets.{whole_preset};
 ghost use Rattle.cases.specs.Examples.{count, class, residues, elementary, ones, flip, weighing, counting, bench_150, bench_of_ones};
 ghost use Rattle.cases.specs.Examples.{gain, broken_at, pattern_10, pattern_01, bytes_184, preset_184};
@@ -19,17 +19,17 @@ ghost use Rattle.cases.specs.WorkedLog.{WorkedLog, session, counts};
 pub fn worked_examples()
     // Numbers as written and as read: 300 is 82 2C, and the largest is 8F FF FF FF 7F.
     ensures spelt_300 { spell 300 ≡ 130 ∷ 44 ∷ [] }
-    ensures read_300 { numeral 0 (130 ∷ 44 ∷ []) ≡ Ok (300, []) }
+    ensures read_300 { number_read 0 (130 ∷ 44 ∷ []) ≡ Ok (300, []) }
     // The largest has a name, v, since to compute its spelling takes as many steps as it is large.
     ensures spelt_largest { (v : ℕ) → v ≡ 4294967295 →
         spell v ≡ 143 ∷ 255 ∷ 255 ∷ 255 ∷ 127 ∷ [] }
-    ensures read_largest { numeral 0 (143 ∷ 255 ∷ 255 ∷ 255 ∷ 127 ∷ []) ≡ Ok (4294967295, []) }
+    ensures read_largest { number_read 0 (143 ∷ 255 ∷ 255 ∷ 255 ∷ 127 ∷ []) ≡ Ok (4294967295, []) }
     // 80, 80 00 and 90 80 80 80 00 are misspelt, and a lone 81 is cut short.
-    ensures misspelt_80 { numeral 6 (128 ∷ []) ≡ Err (refused_at Misspelt 6) }
-    ensures misspelt_80_00 { numeral 6 (128 ∷ 0 ∷ []) ≡ Err (refused_at Misspelt 6) }
-    ensures misspelt_long { numeral 6 (144 ∷ 128 ∷ 128 ∷ 128 ∷ 0 ∷ [])
+    ensures misspelt_80 { number_read 6 (128 ∷ []) ≡ Err (refused_at Misspelt 6) }
+    ensures misspelt_80_00 { number_read 6 (128 ∷ 0 ∷ []) ≡ Err (refused_at Misspelt 6) }
+    ensures misspelt_long { number_read 6 (144 ∷ 128 ∷ 128 ∷ 128 ∷ 0 ∷ [])
         ≡ Err (refused_at Misspelt 6) }
-    ensures cut_short_81 { numeral 6 (129 ∷ []) ≡ Err (refused_at CutShort 6) }
+    ensures cut_short_81 { number_read 6 (129 ∷ []) ≡ Err (refused_at CutShort 6) }
     // The bytes of rule 184 in voices.
     ensures preset_184 { whole_preset bytes_184 ≡ Ok preset_184 }
     // Rule 184 holds, and what crosses at the words 00, 01, 10 and 11 is 0, 0, 1, 0.

@@ -1,6 +1,6 @@
 // Examples: rule 184 and a density of kind both, with their pages, and pages that are wrong.
 use charge::ChargeKind;
-use console::{Expected, Part, TextError, line_of_refusal, page, parse};
+use console::{Expected, PagePart, TextError, line_of_refusal, page, parse};
 use fault::Stop;
 use preset::{Entry, Header};
 use std::test::Fail;
@@ -107,7 +107,7 @@ fn wrong_lines_are_named(rt: HostRuntime) -> Result<(), Fail> {
     );
     assert_eq!(rt;
         parse(alloc, b"kind pitch\n"),
-        Err(TextError::Ended { due: Part::Letters })
+        Err(TextError::Ended { due: PagePart::Letters })
     );
     Ok(())
 }

@@ -1,6 +1,6 @@
 // A rule and a density of more words than any bench has: both traits take them, and every bench refuses them.
 ghost use Rattle.std.specs.Prelude.{◌≡◌, ◌^◌};
-ghost use Rattle.automaton.specs.Meanings.{DensitySizes};
+ghost use Rattle.automaton.specs.Meanings.{DensityLimits};
 ghost use Rattle.cases.specs.Wide.{last_letter, last_letter-lawful, last_weight, last_weighed};
 
 use crate::numbers;
@@ -15,7 +15,7 @@ struct Last {
     q: usize,
     m: usize,
     count: usize,
-    ghost sizes: { DensitySizes q m },
+    ghost sizes: { DensityLimits q m },
     ghost counted: { count ≡ q ^ m },
 }
 

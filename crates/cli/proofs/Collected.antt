@@ -1,11 +1,11 @@
 -- The commands of lines that are read one after another. Assumes nothing.
 use Rattle.std.proofs.Common.{List, ◌++◌, Some, None, Ok, Err, Option, Result}
 use Rattle.fault.specs.Answers.{and_then}
-use Rattle.cli.specs.Commands.{Command}
+use Rattle.cli.specs.Commands.{ScriptCommand}
 use Rattle.cli.specs.declared.script.ScriptError.{ScriptError}
 
 -- commands before others that are read
-abbrev pub after : List Command → Result (List Command) ScriptError → Result (List Command) ScriptError
+abbrev pub after : List ScriptCommand → Result (List ScriptCommand) ScriptError → Result (List ScriptCommand) ScriptError
 after cs s = and_then s (λ ds. Ok (cs ++ ds))
 
 -- the error, if there is one

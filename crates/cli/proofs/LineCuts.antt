@@ -1,20 +1,20 @@
--- A text cut after its first line. Assumes nothing.
+-- A text cut past its first line. Assumes nothing.
 use Rattle.std.proofs.Common.{◌≡◌, ℕ, true, false, eqb, List, [], ◌∷◌, length, drop, refl, ap, ◌∙◌, ⊎_elim, one-add, ◌<◌, arith}
 use Rattle.std.proofs.lemmas.Bool.{cases_Bool}
 use Rattle.std.proofs.lemmas.List.{nil_from_length}
-use Rattle.console.specs.Words.{newline, front, after}
-use Rattle.console.specs.declared.words.Class.TheVariants.{NotNewline}
+use Rattle.console.specs.Cutting.{newline, leading, past}
+use Rattle.console.specs.declared.cutting.Class.TheVariants.{NotNewline}
 use Rattle.cli.specs.Lines.{before, lines}
 
--- the first line, and the lines after the byte that ends it
+-- the first line, and the lines past the byte that ends it
 abbrev cut : List ℕ → List (List ℕ)
-cut bs = front NotNewline bs ∷ lines (drop 1 (after NotNewline bs))
+cut bs = leading NotNewline bs ∷ lines (drop 1 (past NotNewline bs))
 
 module _ (b : ℕ) (bs : List ℕ) where
   at-newline : eqb b newline ≡ true → lines (b ∷ bs) ≡ cut (b ∷ bs)
   at-newline e = rw e
 
-  past : eqb b newline ≡ false → before b (lines bs) ≡ (b ∷ front NotNewline bs) ∷ lines (drop 1 (after NotNewline bs)) → lines (b ∷ bs) ≡ cut (b ∷ bs)
+  past : eqb b newline ≡ false → before b (lines bs) ≡ (b ∷ leading NotNewline bs) ∷ lines (drop 1 (past NotNewline bs)) → lines (b ∷ bs) ≡ cut (b ∷ bs)
   past e h = rw (e, one-add) h
 
 cut-some : (b : ℕ) (bs : List ℕ) → lines (b ∷ bs) ≡ cut (b ∷ bs)
@@ -26,7 +26,7 @@ line_cut [] h = absurd (h refl)
 line_cut (b ∷ bs) h = cut-some b bs
 
 -- the rest of a line that was cut begins with the byte that ends it, or is empty
-module _ (bs f r : List ℕ) (some : length bs ≡ 0 → ⊥) (front_is : f ≡ front NotNewline bs) (rest_is : r ≡ after NotNewline bs) where
+module _ (bs f r : List ℕ) (some : length bs ≡ 0 → ⊥) (front_is : f ≡ leading NotNewline bs) (rest_is : r ≡ past NotNewline bs) where
   pub line_ended : lines bs ≡ f ∷ lines (drop 1 r)
   line_ended = line_cut bs some ∙ rw (front_is, rest_is)
 

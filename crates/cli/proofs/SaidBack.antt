@@ -9,12 +9,12 @@ use Rattle.std.specs.Str.{all_ascii_digits}
 use Rattle.automaton.specs.Shown.{digits}
 use Rattle.console.specs.Numbers.{number_end, number}
 use Rattle.console.specs.Pages.{spaced}
-use Rattle.console.specs.Words.{belongs, front, words}
-use Rattle.console.specs.declared.words.Class.TheVariants.{NotBlank, NotNewline, NotHash}
+use Rattle.console.specs.Cutting.{belongs, leading, words}
+use Rattle.console.specs.declared.cutting.Class.TheVariants.{NotBlank, NotNewline, NotHash}
 use Rattle.console.proofs.Digits.{number-some}
 use Rattle.console.proofs.ReadBack.{Of, Word, of-append, front_all, words-front, digits_of, own, number-decimal, spaced_apart, words-spaced, part_of}
-use Rattle.cli.specs.Commands.{Command, count, letters, most_steps, verb_text, verb_of, arguments, command_of, line_command, Sayable, ReadsBack}
-use Rattle.cli.specs.Commands.Command.{opens, step, steps, touches, reads, arc, meters, closes}
+use Rattle.cli.specs.Commands.{ScriptCommand, count, letters, most_steps, verb_text, verb_of, arguments, command_of, line_command, Sayable, ReadsBack}
+use Rattle.cli.specs.Commands.ScriptCommand.{opens, step, steps, touches, reads, arc, meters, closes}
 use Rattle.cli.specs.declared.command.Verb.{Verb}
 use Rattle.cli.specs.declared.command.Verb.TheVariants as verb
 
@@ -95,10 +95,10 @@ module _ (name : List ℕ) (ws : List (List ℕ)) (n : Plain name) (h : AllByRec
   abbrev said : List ℕ
   said = name ++ spaced (λ w. w) ws
 
-  no-comment : front NotHash said ≡ said
+  no-comment : leading NotHash said ≡ said
   no-comment =
       let all : Of NotHash said = of-append NotHash name (spaced (λ w. w) ws) n.plain (spaced_plain ws h) in
-      ap (front NotHash) (sym (append-nil said)) ∙ front_all NotHash said all
+      ap (leading NotHash) (sym (append-nil said)) ∙ front_all NotHash said all
 
   its-words : words said ≡ name ∷ ws
   its-words =
@@ -125,7 +125,7 @@ decimal_plain n h = digits_plain (decimal n) (decimal-digits n h)
 ring_some : (a : ℕ) (r : List ℕ) → a < 10 → 0 < length (digits (a ∷ r))
 ring_some a r h = rw (decimal_digit a h) (omega arith)
 
-arguments_plain : (c : Command) → Sayable c → AllByRecursion Plain (arguments c)
+arguments_plain : (c : ScriptCommand) → Sayable c → AllByRecursion Plain (arguments c)
 arguments_plain (opens []) h = tt
 arguments_plain (opens (a ∷ r)) h = (digits_plain (digits (a ∷ r)) (record { some = ring_some a r h.0; all = ring_all (a ∷ r) h }), tt)
 arguments_plain step h = tt
@@ -137,7 +137,7 @@ arguments_plain meters h = tt
 arguments_plain closes h = tt
 
 -- the command that the words are
-words_read : (c : Command) → Sayable c → command_of (verb_text (verb_of c) ∷ arguments c) ≡ Ok (Some c)
+words_read : (c : ScriptCommand) → Sayable c → command_of (verb_text (verb_of c) ∷ arguments c) ≡ Ok (Some c)
 words_read (opens []) h = refl
 words_read (opens (a ∷ r)) h = rw (ring_all (a ∷ r) h, ring_letters (a ∷ r) h)
 words_read step h = refl

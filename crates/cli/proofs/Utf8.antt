@@ -4,7 +4,7 @@ use Rattle.std.proofs.lemmas.List.{take_all}
 use Rattle.std.proofs.lemmas.Str.{utf8_valid_len-IsUtf8}
 use Rattle.std.specs.Str.{IsUtf8, IsValidUpTo}
 use Rattle.std.specs.Str.Lossy.{utf8_valid_len}
-use Rattle.cli.specs.Words.{is_utf8}
+use Rattle.cli.specs.ShownArguments.{is_utf8}
 
 pub utf8_valid : (bs : List ℕ) → IsUtf8 bs → is_utf8 bs ≡ true
 utf8_valid bs h = eq-eqb (utf8_valid_len bs) (length bs) (utf8_valid_len-IsUtf8 bs h)

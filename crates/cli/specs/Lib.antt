@@ -6,4 +6,4 @@ pub mod Replies
 pub mod Requests
 pub mod Scripts
 pub mod Told
-pub mod Words
+pub mod ShownArguments

@@ -1,7 +1,7 @@
 -- The lines of a text. Assumes nothing.
 use Rattle.std.specs.Prelude.{ℕ, cond, List, [], ◌∷◌, Some, None, Option, ◌==◌}
-use Rattle.console.specs.Words.{newline}
-use Rattle.console.specs.declared.words.Split.{Split}
+use Rattle.console.specs.Cutting.{newline}
+use Rattle.console.specs.declared.cutting.Split.{Split}
 
 -- a byte before the first of some lines
 abbrev pub before : ℕ → List (List ℕ) → List (List ℕ)

@@ -14,7 +14,7 @@ use Rattle.player.specs.declared.arc.ArcReading.{ArcReading}
 use Rattle.player.specs.declared.call.Answer.{Answer}
 use Rattle.player.specs.declared.call.Answer.TheVariants as answer
 use Rattle.player.specs.declared.meters.Reading.{Reading}
-use Rattle.cli.specs.Commands.{Command, command_text}
+use Rattle.cli.specs.Commands.{ScriptCommand, command_text}
 use Rattle.cli.specs.declared.command.Verb.{Verb}
 use Rattle.cli.specs.declared.command.Verb.TheVariants as verb
 use Rattle.cli.specs.declared.reply.Reply.{Reply}
@@ -84,7 +84,7 @@ module _ {C : Type 0} (S : Sending C) where
   said (Arc a adds_up) = codes ": " ++ (arc_text a ++ (codes ", " ++ (adding_text adds_up ++ codes "\n")))
   said LongArc = codes ": the arc is longer than the ring\n"
 
-  abbrev pub reply_text : Command → Reply C → List ℕ
+  abbrev pub reply_text : ScriptCommand → Reply C → List ℕ
   reply_text c r = command_text c ++ said r
 
 -- what the meters are answered, of the readings of all sites of the ring that is open: that none is open, or the readings

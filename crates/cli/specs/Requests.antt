@@ -5,8 +5,8 @@ use Rattle.std.specs.Str.{bytes_eq}
 use Rattle.fault.specs.Answers.{and_then}
 use Rattle.cli.specs.Commands.{count, ring, most_steps, word_at, letters}
 use Rattle.cli.specs.Names.{named}
-use Rattle.cli.specs.Words.{is_utf8, shown_word}
-use Rattle.cli.specs.declared.request.Request.{Request as RequestOf}
+use Rattle.cli.specs.ShownArguments.{is_utf8, shown_argument}
+use Rattle.cli.specs.declared.request.Request.{Request}
 use Rattle.cli.specs.declared.request.Request.TheVariants as request
 use Rattle.cli.specs.declared.usage.Operand.{Operand}
 use Rattle.cli.specs.declared.usage.Operand.TheVariants.{Text, Preset, Ring, Steps}
@@ -16,25 +16,25 @@ use Rattle.cli.specs.declared.subcommand.Subcommand.{Subcommand}
 use Rattle.cli.specs.declared.subcommand.Subcommand.TheVariants as verb
 
 -- What is asked, with the names of files, a ring by its letters, and how many steps; judge has its words as they are.
-pub data Request : Type 0 where
-  help : Request
-  show : List ℕ → Request
-  encode : List ℕ → List ℕ → Request
-  judge : List (List ℕ) → Request
-  crossings : List ℕ → Request
-  compare : List ℕ → List ℕ → Request
-  play : List ℕ → Request
-  run : List ℕ → List ℕ → ℕ → Bool → Request
+pub data ProgramRequest : Type 0 where
+  help : ProgramRequest
+  show : List ℕ → ProgramRequest
+  encode : List ℕ → List ℕ → ProgramRequest
+  judge : List (List ℕ) → ProgramRequest
+  crossings : List ℕ → ProgramRequest
+  compare : List ℕ → List ℕ → ProgramRequest
+  play : List ℕ → ProgramRequest
+  run : List ℕ → List ℕ → ℕ → Bool → ProgramRequest
 
-abbrev pub request_of : RequestOf → Request
-request_of request.Help = help
-request_of (request.Show preset) = show preset.now
-request_of (request.Encode text preset) = encode text.now preset.now
-request_of (request.Judge presets) = judge (map vec_items presets.now)
-request_of (request.Crossings preset) = crossings preset.now
-request_of (request.Compare first second) = compare first.now second.now
-request_of (request.Play preset) = play preset.now
-request_of (request.Run preset ring steps meters) = run preset.now (letters ring.text.now) steps meters
+abbrev pub request_meant : Request → ProgramRequest
+request_meant request.Help = help
+request_meant (request.Show preset) = show preset.now
+request_meant (request.Encode text preset) = encode text.now preset.now
+request_meant (request.Judge presets) = judge (map vec_items presets.now)
+request_meant (request.Crossings preset) = crossings preset.now
+request_meant (request.Compare first second) = compare first.now second.now
+request_meant (request.Play preset) = play preset.now
+request_meant (request.Run preset ring steps meters) = run preset.now (letters ring.text.now) steps meters
 
 -- Why arguments ask nothing, with the word that is wrong, or what is missing.
 pub data Complaint : Type 0 where
@@ -59,11 +59,11 @@ complaint (usage.NotRing w) = not_ring w.now
 complaint (usage.NotSteps w) = not_steps w.now
 complaint (usage.ManySteps w) = many_steps w.now
 
-abbrev pub Asking : Type 0 → Type 0
-Asking X = Result X Complaint
+abbrev pub OrComplaint : Type 0 → Type 0
+OrComplaint X = Result X Complaint
 
 -- an answer by what its value stands for
-abbrev pub asking : {X Y : Type 0} → (X → Y) → Result X UsageError → Asking Y
+abbrev pub asking : {X Y : Type 0} → (X → Y) → Result X UsageError → OrComplaint Y
 asking f (Ok x) = Ok (f x)
 asking f (Err e) = Err (complaint e)
 
@@ -74,33 +74,33 @@ is_option (b ∷ []) = false
 is_option (b ∷ (c ∷ bs)) = b == 45
 
 -- a word that names a file
-abbrev pub name : List ℕ → Asking (List ℕ)
+abbrev pub name : List ℕ → OrComplaint (List ℕ)
 name w = cond (is_option w) (Err (unknown_option w)) (cond (is_utf8 w) (Ok w) (Err (not_text w)))
 
 -- the operands of a command, one after another
-abbrev pub operand : Operand → Option (List ℕ) → Asking (List ℕ)
+abbrev pub operand : Operand → Option (List ℕ) → OrComplaint (List ℕ)
 operand what None = Err (missing what)
 operand what (Some w) = name w
 
-abbrev pub ring_operand : Option (List ℕ) → Asking (List ℕ)
+abbrev pub ring_operand : Option (List ℕ) → OrComplaint (List ℕ)
 ring_operand None = Err (missing Ring)
 ring_operand (Some w) = cond (is_option w) (Err (unknown_option w)) (ok_or (ring w) (not_ring w))
 
-abbrev pub few_steps : List ℕ → ℕ → Asking ℕ
+abbrev pub few_steps : List ℕ → ℕ → OrComplaint ℕ
 few_steps w n = cond (nat_le n most_steps) (Ok n) (Err (many_steps w))
 
-abbrev pub steps_operand : Option (List ℕ) → Asking ℕ
+abbrev pub steps_operand : Option (List ℕ) → OrComplaint ℕ
 steps_operand None = Err (missing Steps)
 steps_operand (Some w) =
     cond (is_option w) (Err (unknown_option w)) (and_then (ok_or (count w) (not_steps w)) (few_steps w))
 
 -- nothing may follow
-abbrev pub no_more : {X : Type 0} → Option (List ℕ) → X → Asking X
+abbrev pub no_more : {X : Type 0} → Option (List ℕ) → X → OrComplaint X
 no_more None x = Ok x
 no_more (Some w) x = Err (cond (is_option w) (unknown_option w) (surplus w))
 
 -- the option of run, and nothing more
-abbrev pub meters_flag : Option (List ℕ) → Option (List ℕ) → (Bool → Request) → Asking Request
+abbrev pub meters_flag : Option (List ℕ) → Option (List ℕ) → (Bool → ProgramRequest) → OrComplaint ProgramRequest
 meters_flag None next f = Ok (f false)
 meters_flag (Some w) next f = cond (bytes_eq w (codes "--meters")) (no_more next (f true)) (no_more (Some w) (f false))
 
@@ -121,34 +121,34 @@ named_subcommand =
     (verb.Help ∷ verb.Show ∷ verb.Encode ∷ verb.Judge ∷ verb.Crossings ∷ verb.Compare ∷ verb.Play ∷ verb.Run ∷ [])
 
 -- the name of a command
-abbrev pub command_named : Option (List ℕ) → Asking Subcommand
+abbrev pub command_named : Option (List ℕ) → OrComplaint Subcommand
 command_named None = Err no_command
 command_named (Some w) =
     ok_or (named_subcommand w) (cond (is_option w) (unknown_option w) (unknown_command w))
 
 -- at least one word
-abbrev pub judge_request : List (List ℕ) → Asking Request
+abbrev pub judge_request : List (List ℕ) → OrComplaint ProgramRequest
 judge_request [] = Err (missing Preset)
 judge_request (w ∷ ws) = Ok (judge (w ∷ ws))
 
 -- what a command asks, by the words after its name
-abbrev pub one_file : (List ℕ → Request) → List (List ℕ) → Asking Request
+abbrev pub one_file : (List ℕ → ProgramRequest) → List (List ℕ) → OrComplaint ProgramRequest
 one_file f ws = and_then (operand Preset (word_at 0 ws)) (λ preset. no_more (word_at 1 ws) (f preset))
 
-abbrev pub two_files : Operand → (List ℕ → List ℕ → Request) → List (List ℕ) → Asking Request
+abbrev pub two_files : Operand → (List ℕ → List ℕ → ProgramRequest) → List (List ℕ) → OrComplaint ProgramRequest
 two_files what f ws =
     and_then (operand what (word_at 0 ws)) (λ first.
     and_then (operand Preset (word_at 1 ws)) (λ second.
     no_more (word_at 2 ws) (f first second)))
 
-abbrev pub run_request : List (List ℕ) → Asking Request
+abbrev pub run_request : List (List ℕ) → OrComplaint ProgramRequest
 run_request ws =
     and_then (operand Preset (word_at 0 ws)) (λ preset.
     and_then (ring_operand (word_at 1 ws)) (λ ring.
     and_then (steps_operand (word_at 2 ws)) (λ steps.
     meters_flag (word_at 3 ws) (word_at 4 ws) (run preset ring steps))))
 
-abbrev pub asked_of : Subcommand → List (List ℕ) → Asking Request
+abbrev pub asked_of : Subcommand → List (List ℕ) → OrComplaint ProgramRequest
 asked_of verb.Help ws = no_more (word_at 0 ws) help
 asked_of verb.Show ws = one_file show ws
 asked_of verb.Encode ws = two_files Text encode ws
@@ -171,7 +171,7 @@ others [] = []
 others (w ∷ ws) = ws
 
 -- what the words after the program's name ask
-abbrev pub requested : List (List ℕ) → Asking Request
+abbrev pub requested : List (List ℕ) → OrComplaint ProgramRequest
 requested ws =
     cond (any_help ws)
     (Ok help)
@@ -186,12 +186,12 @@ operand_text Steps = codes "STEPS"
 -- why arguments ask nothing
 abbrev pub usage_sentence : Complaint → List ℕ
 usage_sentence no_command = codes "no command is given"
-usage_sentence (unknown_command w) = shown_word w ++ codes " is no command"
-usage_sentence (unknown_option w) = shown_word w ++ codes " is no option here"
+usage_sentence (unknown_command w) = shown_argument w ++ codes " is no command"
+usage_sentence (unknown_option w) = shown_argument w ++ codes " is no option here"
 usage_sentence (missing what) = operand_text what ++ codes " is missing"
-usage_sentence (surplus w) = shown_word w ++ codes " is one word too many"
-usage_sentence (not_text w) = shown_word w ++ codes " is not UTF-8"
-usage_sentence (not_ring w) = shown_word w ++ codes " is no ring as digits"
-usage_sentence (not_steps w) = shown_word w ++ codes " is no number of steps"
+usage_sentence (surplus w) = shown_argument w ++ codes " is one word too many"
+usage_sentence (not_text w) = shown_argument w ++ codes " is not UTF-8"
+usage_sentence (not_ring w) = shown_argument w ++ codes " is no ring as digits"
+usage_sentence (not_steps w) = shown_argument w ++ codes " is no number of steps"
 usage_sentence (many_steps w) =
-    shown_word w ++ (codes " steps are too many: at most " ++ (decimal most_steps ++ codes " are run at once"))
+    shown_argument w ++ (codes " steps are too many: at most " ++ (decimal most_steps ++ codes " are run at once"))

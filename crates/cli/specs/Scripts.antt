@@ -2,20 +2,20 @@
 use Rattle.std.specs.Prelude.{◌≡◌, ℕ, ◌+◌, List, [], ◌∷◌, ◌++◌, Some, None, Ok, Err, Option, Result, ◌≢◌, codes, decimal}
 use Rattle.fault.specs.Answers.{and_then}
 use Rattle.cli.specs.Lines.{lines}
-use Rattle.cli.specs.Commands.{Command, Reading, line_command, most_steps}
+use Rattle.cli.specs.Commands.{ScriptCommand, LineReading, line_command, most_steps}
 use Rattle.cli.specs.declared.line.Wanted.{Wanted}
 use Rattle.cli.specs.declared.line.Wanted.TheVariants.{Letters, Site, Letter, Length, Steps, FewerSteps, LineEnd, Verb}
 use Rattle.cli.specs.declared.script.ScriptError.{ScriptError}
 use Rattle.cli.specs.declared.script.ScriptError.TheVariants.{Memory, Line}
-use Rattle.cli.specs.declared.lines.Lines.{Lines}
-use Rattle.cli.specs.declared.lines.Numbered.{Numbered as NumberedOf}
+use Rattle.cli.specs.declared.text_lines.TextLines.{TextLines}
+use Rattle.cli.specs.declared.text_lines.NumberedLine.{NumberedLine}
 
 -- A line with its number.
 pub record Numbered : Type 0 where
   pub number : ℕ
   pub text : List ℕ
 
-abbrev pub numbered_of : NumberedOf → Numbered
+abbrev pub numbered_of : NumberedLine → Numbered
 numbered_of l = record { number = l.number; text = l.text.now }
 
 -- lines numbered from n on
@@ -23,26 +23,26 @@ abbrev pub numbered : ℕ → List (List ℕ) → List Numbered
 numbered n [] = []
 numbered n (l ∷ ls) = record { number = n; text = l } ∷ numbered (n + 1) ls
 
-abbrev pub lines_left : Lines → List Numbered
+abbrev pub lines_left : TextLines → List Numbered
 lines_left l = numbered (l.passed + 1) (lines l.text.now)
 
 -- a command before others, if there is one
-abbrev pub with_command : Option Command → List Command → List Command
+abbrev pub with_command : Option ScriptCommand → List ScriptCommand → List ScriptCommand
 with_command None cs = cs
 with_command (Some c) cs = c ∷ cs
 
 -- the command of a numbered line, or what the line should have
-abbrev pub at_line : Numbered → Reading (Option Command) → Result (Option Command) ScriptError
+abbrev pub at_line : Numbered → LineReading (Option ScriptCommand) → Result (Option ScriptCommand) ScriptError
 at_line l (Ok c) = Ok c
 at_line l (Err wanted) = Err (Line l.number wanted)
 
-abbrev pub commands : List Numbered → Result (List Command) ScriptError
+abbrev pub commands : List Numbered → Result (List ScriptCommand) ScriptError
 commands [] = Ok []
 commands (l ∷ ls) =
     and_then (at_line l (line_command l.text)) (λ c. and_then (commands ls) (λ cs. Ok (with_command c cs)))
 
 -- the commands that a script is, or its first line that is none and what it should have
-abbrev pub script : List ℕ → Result (List Command) ScriptError
+abbrev pub script : List ℕ → Result (List ScriptCommand) ScriptError
 script text = commands (numbered 1 (lines text))
 
 -- an answer by what its value stands for

@@ -1,9 +1,9 @@
 // The commands of a script.
 ghost use Rattle.std.specs.Prelude.{◌≡◌, Some, IfOk, vec_items};
 ghost use Rattle.std.specs.Option.{option_map};
-ghost use Rattle.player.specs.Answers.{asked as call_asked};
+ghost use Rattle.player.specs.Answers.{call_meant};
 ghost use Rattle.automaton.specs.Shown.{digits};
-ghost use Rattle.cli.specs.Commands.{asked, letters, command_text, verb_of, one_call};
+ghost use Rattle.cli.specs.Commands.{command_meant, letters, command_text, verb_of, one_call};
 
 use crate::names::Named;
 use player::Call;
@@ -69,7 +69,7 @@ impl fmt::Display for Digits<'_> {
 impl Command<'_> {
     // What sort of command it is.
     pub fn verb(&self) -> Verb
-        ensures { result ≡ verb_of (asked self.now) }
+        ensures { result ≡ verb_of (command_meant self.now) }
     {
         match self {
             Command::Open(_) => Verb::Open,
@@ -85,7 +85,7 @@ impl Command<'_> {
     // The player's call that it is, if it is one call, where `ring` has the letters of the ring that it opens. A number
     // above every letter is asked as the highest, which no alphabet has.
     pub fn call<'a>(&self, ring: &'a [u8]) -> Option<Call<'a>>
-        ensures { option_map call_asked result ≡ one_call (asked self.now) ring.now }
+        ensures { option_map call_meant result ≡ one_call (command_meant self.now) ring.now }
     {
         match *self {
             Command::Open(_) => Some(Call::Open(ring)),
@@ -102,7 +102,7 @@ impl Command<'_> {
 }
 
 impl fmt::Display for Command<'_> {
-    ghost output = { λ c. Some (command_text (asked c)) };
+    ghost output = { λ c. Some (command_text (command_meant c)) };
 
     fn fmt<W: fmt::Write>(&self, f: &mut fmt::Formatter<W>) -> fmt::Result {
         let name = self.verb().name();

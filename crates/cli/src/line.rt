@@ -1,11 +1,11 @@
 // A line of a script.
 ghost use Rattle.std.specs.Prelude.{◌≡◌};
-ghost use Rattle.cli.specs.Commands.{asked, read, text, at_end, number_word, few, open_command, step_command, site_and, touch_command, read_command, arc_command, of_verb, named_command, line_command, some_asked, ReadsBack};
+ghost use Rattle.cli.specs.Commands.{command_meant, read, lent_word, at_end, number_word, few, open_command, step_command, site_and, touch_command, read_command, arc_command, of_verb, named_command, line_command, some_command_meant, ReadsBack};
 
 use crate::command::{Command, Digits, Verb};
 use crate::count::{read_count, read_ring};
 use crate::verb::verb_named;
-use console::{Class, Words, cut};
+use console::{Class, LineWords, cut};
 
 // What a line should have where it has something else, or nothing.
 #[derive(Clone, Copy, PartialEq, Eq, Debug)]
@@ -25,7 +25,7 @@ pub const MOST_STEPS: usize = 1_000_000;
 
 // A value, unless something follows.
 fn end<T: Drop>(value: T, rest: Option<&[u8]>) -> Result<T, Wanted>
-    ensures { result ≡ at_end (text rest.entry) value }
+    ensures { result ≡ at_end (lent_word rest.entry) value }
 {
     match rest {
         None => Ok(value),
@@ -35,7 +35,7 @@ fn end<T: Drop>(value: T, rest: Option<&[u8]>) -> Result<T, Wanted>
 
 // The number that a word writes.
 fn number(wanted: Wanted, word: Option<&[u8]>) -> Result<usize, Wanted>
-    ensures { result ≡ number_word wanted (text word.entry) }
+    ensures { result ≡ number_word wanted (lent_word word.entry) }
 {
     word.and_then(read_count).ok_or(wanted)
 }
@@ -51,8 +51,8 @@ fn few_steps(count: usize) -> Result<usize, Wanted>
 }
 
 fn open<'a>(first: Option<&'a [u8]>, second: Option<&[u8]>) -> Result<Command<'a>, Wanted>
-    ensures { read asked result
-        ≡ open_command (text first.entry) (text second.entry) }
+    ensures { read command_meant result
+        ≡ open_command (lent_word first.entry) (lent_word second.entry) }
 {
     let Some(word) = first else {
         return Ok(Command::Open(Digits { text: &[] }));
@@ -68,7 +68,7 @@ fn site_and(
     second: Option<&[u8]>,
     third: Option<&[u8]>,
 ) -> Result<(usize, usize), Wanted>
-    ensures { result ≡ site_and wanted (text first.entry) (text second.entry) (text third.entry) }
+    ensures { result ≡ site_and wanted (lent_word first.entry) (lent_word second.entry) (lent_word third.entry) }
 {
     let site = number(Wanted::Site, first)?;
     let count = number(wanted, second)?;
@@ -80,15 +80,15 @@ fn touch<'a>(
     second: Option<&[u8]>,
     third: Option<&[u8]>,
 ) -> Result<Command<'a>, Wanted>
-    ensures { read asked result
-        ≡ touch_command (text first.entry) (text second.entry) (text third.entry) }
+    ensures { read command_meant result
+        ≡ touch_command (lent_word first.entry) (lent_word second.entry) (lent_word third.entry) }
 {
     let (site, letter) = site_and(Wanted::Letter, first, second, third)?;
     Ok(Command::Touch { site, letter })
 }
 
 fn step<'a>(first: Option<&[u8]>, second: Option<&[u8]>) -> Result<Command<'a>, Wanted>
-    ensures { read asked result ≡ step_command (text first.entry) (text second.entry) }
+    ensures { read command_meant result ≡ step_command (lent_word first.entry) (lent_word second.entry) }
 {
     let Some(word) = first else {
         return Ok(Command::Step);
@@ -98,7 +98,7 @@ fn step<'a>(first: Option<&[u8]>, second: Option<&[u8]>) -> Result<Command<'a>, 
 }
 
 fn read<'a>(first: Option<&[u8]>, second: Option<&[u8]>) -> Result<Command<'a>, Wanted>
-    ensures { read asked result ≡ read_command (text first.entry) (text second.entry) }
+    ensures { read command_meant result ≡ read_command (lent_word first.entry) (lent_word second.entry) }
 {
     let site = number(Wanted::Site, first)?;
     end(Command::Read(site), second)
@@ -109,8 +109,8 @@ fn arc<'a>(
     second: Option<&[u8]>,
     third: Option<&[u8]>,
 ) -> Result<Command<'a>, Wanted>
-    ensures { read asked result
-        ≡ arc_command (text first.entry) (text second.entry) (text third.entry) }
+    ensures { read command_meant result
+        ≡ arc_command (lent_word first.entry) (lent_word second.entry) (lent_word third.entry) }
 {
     let (site, len) = site_and(Wanted::Length, first, second, third)?;
     Ok(Command::Arc { site, len })
@@ -123,8 +123,8 @@ fn of_verb<'a>(
     second: Option<&[u8]>,
     third: Option<&[u8]>,
 ) -> Result<Command<'a>, Wanted>
-    ensures { read asked result
-        ≡ of_verb verb (text first.entry) (text second.entry) (text third.entry) }
+    ensures { read command_meant result
+        ≡ of_verb verb (lent_word first.entry) (lent_word second.entry) (lent_word third.entry) }
 {
     match verb {
         Verb::Open => open(first, second),
@@ -144,9 +144,9 @@ fn named<'a>(
     second: Option<&[u8]>,
     third: Option<&[u8]>,
 ) -> Result<Option<Command<'a>>, Wanted>
-    ensures { read some_asked result
-        ≡ named_command (text name.entry)
-        (text first.entry) (text second.entry) (text third.entry) }
+    ensures { read some_command_meant result
+        ≡ named_command (lent_word name.entry)
+        (lent_word first.entry) (lent_word second.entry) (lent_word third.entry) }
 {
     let Some(name) = name else {
         return Ok(None);
@@ -158,10 +158,10 @@ fn named<'a>(
 // The command that a line is, unless it has no words. What follows a # is a comment.
 #[tactic(auto, using(crate::proofs::SaidBack::reads_back))]
 pub fn read_line(line: &[u8]) -> Result<Option<Command<'_>>, Wanted>
-    ensures command { read some_asked result ≡ line_command line.now }
+    ensures command { read some_command_meant result ≡ line_command line.now }
     ensures back { ReadsBack }
 {
-    let mut words = Words {
+    let mut words = LineWords {
         line: cut(Class::NotHash, line).front,
     };
     let name = words.next();

@@ -1,6 +1,6 @@
 // What the commands of a script are answered.
 ghost use Rattle.std.specs.Prelude.{◌≡◌, Some};
-ghost use Rattle.cli.specs.Commands.{asked};
+ghost use Rattle.cli.specs.Commands.{command_meant};
 ghost use Rattle.console.specs.Pages.{spaced};
 ghost use Rattle.report.specs.Texts.{rows_text};
 ghost use Rattle.cli.specs.Replies.{reply_to, reading_text, meters_row, arc_text, reply_text, ArcRight, MetersRight, ring_row, charge_text};
@@ -177,7 +177,7 @@ pub struct ReplyText<'c, 'r, C> {
 }
 
 impl<C: Sent> fmt::Display for ReplyText<'_, '_, C> {
-    ghost output = { λ t. Some (reply_text C.sending (asked t.command) t.reply) };
+    ghost output = { λ t. Some (reply_text C.sending (command_meant t.command) t.reply) };
 
     fn fmt<W: fmt::Write>(&self, f: &mut fmt::Formatter<W>) -> fmt::Result {
         let command = self.command;

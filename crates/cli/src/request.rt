@@ -1,7 +1,7 @@
 // What the program's arguments ask.
 ghost use Rattle.std.specs.Prelude.{◌≡◌, map, vec_items};
-ghost use Rattle.cli.specs.Commands.{text, word_at, letters};
-ghost use Rattle.cli.specs.Requests.{is_option, name, operand, ring_operand, steps_operand, no_more, asking, request_of, asked_of, command_named, asks_help, any_help, requested};
+ghost use Rattle.cli.specs.Commands.{lent_word, word_at, letters};
+ghost use Rattle.cli.specs.Requests.{is_option, name, operand, ring_operand, steps_operand, no_more, asking, request_meant, asked_of, command_named, asks_help, any_help, requested};
 ghost use Rattle.cli.specs.declared.subcommand.Subcommand.TheVariants as verb;
 
 use crate::command::Digits;
@@ -62,7 +62,7 @@ pub fn file_name(word: &[u8]) -> Result<&str, UsageError<'_>>
 }
 
 fn operand<'a>(what: Operand, word: Option<&'a [u8]>) -> Result<&'a str, UsageError<'a>>
-    ensures { asking (λ s. s.now) result ≡ operand what (text word.entry) }
+    ensures { asking (λ s. s.now) result ≡ operand what (lent_word word.entry) }
 {
     match word {
         Some(word) => file_name(word),
@@ -71,7 +71,7 @@ fn operand<'a>(what: Operand, word: Option<&'a [u8]>) -> Result<&'a str, UsageEr
 }
 
 fn ring_operand(word: Option<&[u8]>) -> Result<Digits<'_>, UsageError<'_>>
-    ensures { asking (λ d. letters d.text.now) result ≡ ring_operand (text word.entry) }
+    ensures { asking (λ d. letters d.text.now) result ≡ ring_operand (lent_word word.entry) }
 {
     let Some(word) = word else {
         return Err(UsageError::Missing(Operand::Ring));
@@ -83,7 +83,7 @@ fn ring_operand(word: Option<&[u8]>) -> Result<Digits<'_>, UsageError<'_>>
 }
 
 fn steps_operand(word: Option<&[u8]>) -> Result<usize, UsageError<'_>>
-    ensures { asking (λ n. n) result ≡ steps_operand (text word.entry) }
+    ensures { asking (λ n. n) result ≡ steps_operand (lent_word word.entry) }
 {
     let Some(word) = word else {
         return Err(UsageError::Missing(Operand::Steps));
@@ -100,7 +100,7 @@ fn steps_operand(word: Option<&[u8]>) -> Result<usize, UsageError<'_>>
 
 // What is asked, unless a word follows.
 fn no_more<'a>(request: Request<'a>, next: Option<&'a [u8]>) -> Result<Request<'a>, UsageError<'a>>
-    ensures { asking request_of result ≡ no_more (text next.entry) (request_of request.entry) }
+    ensures { asking request_meant result ≡ no_more (lent_word next.entry) (request_meant request.entry) }
 {
     match next {
         None => Ok(request),
@@ -111,7 +111,7 @@ fn no_more<'a>(request: Request<'a>, next: Option<&'a [u8]>) -> Result<Request<'
 
 // The word i of some words, if they are so many.
 fn word_at(words: &[Vec<u8>], i: usize) -> Option<&[u8]>
-    ensures { text result ≡ word_at i (map vec_items words.now) }
+    ensures { lent_word result ≡ word_at i (map vec_items words.now) }
 {
     match words.get(i) {
         Some(word) => Some(word.as_slice()),
@@ -121,21 +121,21 @@ fn word_at(words: &[Vec<u8>], i: usize) -> Option<&[u8]>
 
 // What is asked of one file.
 fn show<'a>(words: &'a [Vec<u8>]) -> Result<Request<'a>, UsageError<'a>>
-    ensures { asking request_of result ≡ asked_of verb.Show (map vec_items words.now) }
+    ensures { asking request_meant result ≡ asked_of verb.Show (map vec_items words.now) }
 {
     let preset = operand(Operand::Preset, word_at(words, 0))?;
     no_more(Request::Show { preset }, word_at(words, 1))
 }
 
 fn crossings<'a>(words: &'a [Vec<u8>]) -> Result<Request<'a>, UsageError<'a>>
-    ensures { asking request_of result ≡ asked_of verb.Crossings (map vec_items words.now) }
+    ensures { asking request_meant result ≡ asked_of verb.Crossings (map vec_items words.now) }
 {
     let preset = operand(Operand::Preset, word_at(words, 0))?;
     no_more(Request::Crossings { preset }, word_at(words, 1))
 }
 
 fn play<'a>(words: &'a [Vec<u8>]) -> Result<Request<'a>, UsageError<'a>>
-    ensures { asking request_of result ≡ asked_of verb.Play (map vec_items words.now) }
+    ensures { asking request_meant result ≡ asked_of verb.Play (map vec_items words.now) }
 {
     let preset = operand(Operand::Preset, word_at(words, 0))?;
     no_more(Request::Play { preset }, word_at(words, 1))
@@ -143,7 +143,7 @@ fn play<'a>(words: &'a [Vec<u8>]) -> Result<Request<'a>, UsageError<'a>>
 
 // What is asked of two files.
 fn encode<'a>(words: &'a [Vec<u8>]) -> Result<Request<'a>, UsageError<'a>>
-    ensures { asking request_of result ≡ asked_of verb.Encode (map vec_items words.now) }
+    ensures { asking request_meant result ≡ asked_of verb.Encode (map vec_items words.now) }
 {
     let text = operand(Operand::Text, word_at(words, 0))?;
     let preset = operand(Operand::Preset, word_at(words, 1))?;
@@ -151,7 +151,7 @@ fn encode<'a>(words: &'a [Vec<u8>]) -> Result<Request<'a>, UsageError<'a>>
 }
 
 fn compare<'a>(words: &'a [Vec<u8>]) -> Result<Request<'a>, UsageError<'a>>
-    ensures { asking request_of result ≡ asked_of verb.Compare (map vec_items words.now) }
+    ensures { asking request_meant result ≡ asked_of verb.Compare (map vec_items words.now) }
 {
     let first = operand(Operand::Preset, word_at(words, 0))?;
     let second = operand(Operand::Preset, word_at(words, 1))?;
@@ -159,7 +159,7 @@ fn compare<'a>(words: &'a [Vec<u8>]) -> Result<Request<'a>, UsageError<'a>>
 }
 
 fn judge<'a>(words: &'a [Vec<u8>]) -> Result<Request<'a>, UsageError<'a>>
-    ensures { asking request_of result ≡ asked_of verb.Judge (map vec_items words.now) }
+    ensures { asking request_meant result ≡ asked_of verb.Judge (map vec_items words.now) }
 {
     match words {
         [] => Err(UsageError::Missing(Operand::Preset)),
@@ -169,7 +169,7 @@ fn judge<'a>(words: &'a [Vec<u8>]) -> Result<Request<'a>, UsageError<'a>>
 
 // A ring that is run, with the option that asks for its meters.
 fn run<'a>(words: &'a [Vec<u8>]) -> Result<Request<'a>, UsageError<'a>>
-    ensures { asking request_of result ≡ asked_of verb.Run (map vec_items words.now) }
+    ensures { asking request_meant result ≡ asked_of verb.Run (map vec_items words.now) }
 {
     let preset = operand(Operand::Preset, word_at(words, 0))?;
     let ring = ring_operand(word_at(words, 1))?;
@@ -190,7 +190,7 @@ fn run<'a>(words: &'a [Vec<u8>]) -> Result<Request<'a>, UsageError<'a>>
 
 // What a command asks, by the words after its name.
 fn asked_of<'a>(command: Subcommand, words: &'a [Vec<u8>]) -> Result<Request<'a>, UsageError<'a>>
-    ensures { asking request_of result ≡ asked_of command (map vec_items words.now) }
+    ensures { asking request_meant result ≡ asked_of command (map vec_items words.now) }
 {
     match command {
         Subcommand::Help => no_more(Request::Help, word_at(words, 0)),
@@ -206,7 +206,7 @@ fn asked_of<'a>(command: Subcommand, words: &'a [Vec<u8>]) -> Result<Request<'a>
 
 // The command that the first word names.
 fn command_named(word: Option<&[u8]>) -> Result<Subcommand, UsageError<'_>>
-    ensures { asking (λ c. c) result ≡ command_named (text word.entry) }
+    ensures { asking (λ c. c) result ≡ command_named (lent_word word.entry) }
 {
     match word {
         None => Err(UsageError::NoCommand),
@@ -238,7 +238,7 @@ fn any_help(words: &[Vec<u8>]) -> bool
 
 // What the words after the program's name ask. The option that asks for help may stand anywhere among them.
 pub fn read_arguments(words: &[Vec<u8>]) -> Result<Request<'_>, UsageError<'_>>
-    ensures { asking request_of result ≡ requested (map vec_items words.now) }
+    ensures { asking request_meant result ≡ requested (map vec_items words.now) }
 {
     if any_help(words) {
         return Ok(Request::Help);

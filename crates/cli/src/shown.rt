@@ -1,14 +1,14 @@
-// Words of the arguments as they are shown.
+// LineWords of the arguments as they are shown.
 ghost use Rattle.std.specs.Prelude.{◌≡◌, ◌<◌, if◌then◌else◌, Some, None};
-ghost use Rattle.cli.specs.Commands.{text};
-ghost use Rattle.cli.specs.Words.{is_utf8, no_controls, hex_digit, byte_text, bytes_text, shown_word};
+ghost use Rattle.cli.specs.Commands.{lent_word};
+ghost use Rattle.cli.specs.ShownArguments.{is_utf8, no_controls, hex_digit, byte_text, bytes_text, shown_argument};
 
 use std::fmt;
 
 // A word that is UTF-8.
 #[tactic(auto, using(crate::proofs::Utf8::utf8_valid, crate::proofs::Utf8::utf8_invalid))]
 pub(crate) fn utf8(word: &[u8]) -> Option<&str>
-    ensures { text result ≡ (if is_utf8 word.now then Some word.now else None) }
+    ensures { lent_word result ≡ (if is_utf8 word.now then Some word.now else None) }
 {
     match str::from_utf8(word) {
         Ok(text) => Some(text),
@@ -79,12 +79,12 @@ impl fmt::Display for ShownBytes<'_> {
 
 // A word or a name as it is shown in a line: as it is, or byte by byte where that would be no line of text.
 #[derive(Clone, Copy)]
-pub struct ShownWord<'a> {
+pub struct ShownArgument<'a> {
     pub bytes: &'a [u8],
 }
 
-impl fmt::Display for ShownWord<'_> {
-    ghost output = { λ w. Some (shown_word w.bytes.now) };
+impl fmt::Display for ShownArgument<'_> {
+    ghost output = { λ w. Some (shown_argument w.bytes.now) };
 
     fn fmt<W: fmt::Write>(&self, f: &mut fmt::Formatter<W>) -> fmt::Result {
         if self.bytes.is_empty() {

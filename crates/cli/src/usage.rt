@@ -3,7 +3,7 @@ ghost use Rattle.std.specs.Prelude.{Some};
 
 use crate::line::MOST_STEPS;
 use crate::names::Named;
-use crate::shown::ShownWord;
+use crate::shown::ShownArgument;
 use std::error::Error;
 use std::fmt;
 
@@ -58,31 +58,31 @@ impl fmt::Display for UsageError<'_> {
                 write!(f, "{name} is missing")
             }
             UsageError::UnknownCommand(bytes) => {
-                let word = ShownWord { bytes };
+                let word = ShownArgument { bytes };
                 write!(f, "{word} is no command")
             }
             UsageError::UnknownOption(bytes) => {
-                let word = ShownWord { bytes };
+                let word = ShownArgument { bytes };
                 write!(f, "{word} is no option here")
             }
             UsageError::Surplus(bytes) => {
-                let word = ShownWord { bytes };
+                let word = ShownArgument { bytes };
                 write!(f, "{word} is one word too many")
             }
             UsageError::NotText(bytes) => {
-                let word = ShownWord { bytes };
+                let word = ShownArgument { bytes };
                 write!(f, "{word} is not UTF-8")
             }
             UsageError::NotRing(bytes) => {
-                let word = ShownWord { bytes };
+                let word = ShownArgument { bytes };
                 write!(f, "{word} is no ring as digits")
             }
             UsageError::NotSteps(bytes) => {
-                let word = ShownWord { bytes };
+                let word = ShownArgument { bytes };
                 write!(f, "{word} is no number of steps")
             }
             UsageError::ManySteps(bytes) => {
-                let word = ShownWord { bytes };
+                let word = ShownArgument { bytes };
                 write!(
                     f,
                     "{word} steps are too many: at most {MOST_STEPS} are run at once"

@@ -1,23 +1,23 @@
--- The words of a line, one after another. Assumes nothing.
+-- The words of a line, one past another. Assumes nothing.
 use Rattle.std.proofs.Common.{◌≡◌, ℕ, ◌<◌, true, false, List, [], ◌∷◌, length, sym, refl, ap, ◌∙◌, ⊎_elim, one-add, arith, length-drop, length-take}
 use Rattle.std.proofs.lemmas.Bool.{cases_Bool, not_from_true, not_from_false}
 use Rattle.std.specs.List.{prefix_len}
-use Rattle.console.specs.Words.{blank, belongs, front, after, with_first, first_and_others, words}
-use Rattle.console.specs.declared.words.Class.{Class}
-use Rattle.console.specs.declared.words.Class.TheVariants.{Blank, NotBlank}
+use Rattle.console.specs.Cutting.{blank, belongs, leading, past, with_first, first_and_others, words}
+use Rattle.console.specs.declared.cutting.Class.{Class}
+use Rattle.console.specs.declared.cutting.Class.TheVariants.{Blank, NotBlank}
 
--- a byte more of a front, or the end of it
+-- a byte more of a leading, or the end of it
 module _ (class : Class) (b : ℕ) (bs : List ℕ) where
-  pub front_more : belongs class b ≡ true → front class (b ∷ bs) ≡ b ∷ front class bs
+  pub front_more : belongs class b ≡ true → leading class (b ∷ bs) ≡ b ∷ leading class bs
   front_more e = rw (e, one-add)
 
-  pub after_more : belongs class b ≡ true → after class (b ∷ bs) ≡ after class bs
+  pub after_more : belongs class b ≡ true → past class (b ∷ bs) ≡ past class bs
   after_more e = rw (e, one-add)
 
-  pub front_ends : belongs class b ≡ false → front class (b ∷ bs) ≡ []
+  pub front_ends : belongs class b ≡ false → leading class (b ∷ bs) ≡ []
   front_ends e = rw e
 
-  pub after_ends : belongs class b ≡ false → after class (b ∷ bs) ≡ b ∷ bs
+  pub after_ends : belongs class b ≡ false → past class (b ∷ bs) ≡ b ∷ bs
   after_ends e = rw e
 
 -- blanks before a line's words do not matter
@@ -25,7 +25,7 @@ pub words-past-blank : (b : ℕ) (bs : List ℕ) → blank b ≡ true → words 
 unfolding words
 words-past-blank b bs e = rw e
 
-pub words-past_blanks : (bs : List ℕ) → words bs ≡ words (after Blank bs)
+pub words-past_blanks : (bs : List ℕ) → words bs ≡ words (past Blank bs)
 words-past_blanks [] = refl
 words-past_blanks (b ∷ bs) =
     ⊎_elim
@@ -33,7 +33,7 @@ words-past_blanks (b ∷ bs) =
     (λ e. ap words (sym (after_ends Blank b bs e)))
     (cases_Bool (blank b))
 
-first_split : (bs : List ℕ) → first_and_others bs ≡ (front NotBlank bs, words (after NotBlank bs))
+first_split : (bs : List ℕ) → first_and_others bs ≡ (leading NotBlank bs, words (past NotBlank bs))
 unfolding words
 first_split [] = refl
 first_split (b ∷ bs) =
@@ -42,13 +42,13 @@ first_split (b ∷ bs) =
     (λ e. rw (e, first_split bs, front_more NotBlank b bs (not_from_false (blank b) e), after_more NotBlank b bs (not_from_false (blank b) e), e))
     (cases_Bool (blank b))
 
--- the first word, and the words after it
-pub words_split : (bs : List ℕ) → words bs ≡ with_first (front NotBlank (after Blank bs)) (words (after NotBlank (after Blank bs)))
+-- the first word, and the words past it
+pub words_split : (bs : List ℕ) → words bs ≡ with_first (leading NotBlank (past Blank bs)) (words (past NotBlank (past Blank bs)))
 unfolding words
-words_split bs = words-past_blanks bs ∙ ap (λ (p : List ℕ × List (List ℕ)). with_first p.0 p.1) (first_split (after Blank bs))
+words_split bs = words-past_blanks bs ∙ ap (λ (p : List ℕ × List (List ℕ)). with_first p.0 p.1) (first_split (past Blank bs))
 
--- an empty front after the blanks is the end of the line
-pub words_none : (bs : List ℕ) → length (front NotBlank (after Blank bs)) ≡ 0 → words bs ≡ []
+-- an empty leading past the blanks is the end of the line
+pub words_none : (bs : List ℕ) → length (leading NotBlank (past Blank bs)) ≡ 0 → words bs ≡ []
 unfolding words
 words_none [] h = refl
 words_none (b ∷ bs) h =
@@ -61,12 +61,12 @@ with-first-some : (w : List ℕ) (ws : List (List ℕ)) → (length w ≡ 0 → 
 with-first-some [] ws h = absurd (h refl)
 with-first-some (b ∷ bs) ws h = refl
 
-module _ (bs : List ℕ) (some : length (front NotBlank (after Blank bs)) ≡ 0 → ⊥) where
-  pub words-some : words bs ≡ front NotBlank (after Blank bs) ∷ words (after NotBlank (after Blank bs))
-  words-some = words_split bs ∙ with-first-some (front NotBlank (after Blank bs)) (words (after NotBlank (after Blank bs))) some
+module _ (bs : List ℕ) (some : length (leading NotBlank (past Blank bs)) ≡ 0 → ⊥) where
+  pub words-some : words bs ≡ leading NotBlank (past Blank bs) ∷ words (past NotBlank (past Blank bs))
+  words-some = words_split bs ∙ with-first-some (leading NotBlank (past Blank bs)) (words (past NotBlank (past Blank bs))) some
 
-  pub words_shorter : length (after NotBlank (after Blank bs)) < length bs
+  pub words_shorter : length (past NotBlank (past Blank bs)) < length bs
   words_shorter =
       let n = prefix_len (belongs Blank) bs in
-      let m = prefix_len (belongs NotBlank) (after Blank bs) in
-      omega (arith, length-take m (after Blank bs), length-drop m (after Blank bs), length-drop n bs)
+      let m = prefix_len (belongs NotBlank) (past Blank bs) in
+      omega (arith, length-take m (past Blank bs), length-drop m (past Blank bs), length-drop n bs)

@@ -1,7 +1,7 @@
 -- The next word of a text, past blanks and the ends of lines. Assumes nothing.
 use Rattle.std.proofs.Common.{◌≡◌, ℕ, ◌+◌, ◌-◌, ◌<◌, ◌≤◌, true, false, List, [], length, get_or, take, drop, ◌∙◌, eq-eqb, ne_eqb}
 use Rattle.std.proofs.lemmas.List.{at_drop_more, at_drop_all, drop_more, take_rest}
-use Rattle.console.specs.Words.{newline, blank, next_word}
+use Rattle.console.specs.Cutting.{newline, blank, next_word}
 
 -- the byte at i, after n ends of lines
 module _ (n : ℕ) (bs : List ℕ) (i : ℕ) (within : i < length bs) where

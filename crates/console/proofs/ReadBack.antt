@@ -18,16 +18,16 @@ use Rattle.console.specs.Grammar.{Content, parsed}
 use Rattle.console.specs.Names.{part_text, kind_text, named_kind}
 use Rattle.console.specs.Numbers.{number_end, value_after, number, signed_number}
 use Rattle.console.specs.Pages.{spaced, page_text}
-use Rattle.console.specs.Rows.{Row, Reading, row, only, number_row, kind_row, each, items_row, ending}
-use Rattle.console.specs.Words.{Place, blank, belongs, front, after, words, next_word}
+use Rattle.console.specs.Rows.{PageRow, TextReading, row, only_word, number_row, kind_row, each, items_row, ending}
+use Rattle.console.specs.Cutting.{TextPlace, blank, belongs, leading, past, words, next_word}
 use Rattle.console.specs.ReadBack.{OfKind, Holdable, page_lines, ReadsAs}
 use Rattle.console.specs.declared.error.Expected.{Expected}
 use Rattle.console.specs.declared.error.Expected.TheVariants.{Number}
 use Rattle.console.specs.declared.error.Expected.TheVariants as expected
-use Rattle.console.specs.declared.part.Part.{Part}
-use Rattle.console.specs.declared.part.Part.TheVariants.{Kind, Letters, Window, Reach, Width, Rule, Density, Bytes}
-use Rattle.console.specs.declared.words.Class.{Class}
-use Rattle.console.specs.declared.words.Class.TheVariants.{Blank, NotBlank, NotNewline, NotColon}
+use Rattle.console.specs.declared.page_part.PagePart.{PagePart}
+use Rattle.console.specs.declared.page_part.PagePart.TheVariants.{Kind, Letters, Window, Reach, Width, Rule, Density, Bytes}
+use Rattle.console.specs.declared.cutting.Class.{Class}
+use Rattle.console.specs.declared.cutting.Class.TheVariants.{Blank, NotBlank, NotNewline, NotColon}
 use Rattle.console.proofs.Cuts.{front_more, after_more, front_ends, after_ends, words-past-blank, words-some}
 use Rattle.console.proofs.Digits.{number-some, signed_plain}
 use Rattle.console.proofs.Reading.{row_is, word-is, value-is, ending-is}
@@ -40,22 +40,22 @@ pub of-append : (class : Class) (w v : List ℕ) → Of class w → Of class v �
 of-append class [] v h k = k
 of-append class (b ∷ w) v h k = (h.0, of-append class w v h.1 k)
 
--- such bytes are a front, where another byte follows
+-- such bytes are a leading, where another byte follows
 module _ (class : Class) (b : ℕ) (rest : List ℕ) (ends : belongs class b ≡ false) where
-  front_of : (w : List ℕ) → Of class w → front class (w ++ (b ∷ rest)) ≡ w
+  front_of : (w : List ℕ) → Of class w → leading class (w ++ (b ∷ rest)) ≡ w
   front_of [] h = front_ends class b rest ends
   front_of (x ∷ w) h = front_more class x (w ++ (b ∷ rest)) h.0 ∙ ap (λ (v : List ℕ). x ∷ v) (front_of w h.1)
 
-  after_of : (w : List ℕ) → Of class w → after class (w ++ (b ∷ rest)) ≡ b ∷ rest
+  after_of : (w : List ℕ) → Of class w → past class (w ++ (b ∷ rest)) ≡ b ∷ rest
   after_of [] h = after_ends class b rest ends
   after_of (x ∷ w) h = after_more class x (w ++ (b ∷ rest)) h.0 ∙ after_of w h.1
 
 -- and where nothing follows
-pub front_all : (class : Class) (w : List ℕ) → Of class w → front class (w ++ []) ≡ w
+pub front_all : (class : Class) (w : List ℕ) → Of class w → leading class (w ++ []) ≡ w
 front_all class [] h = refl
 front_all class (x ∷ w) h = front_more class x (w ++ []) h.0 ∙ ap (λ (v : List ℕ). x ∷ v) (front_all class w h.1)
 
-after_all : (class : Class) (w : List ℕ) → Of class w → after class (w ++ []) ≡ []
+after_all : (class : Class) (w : List ℕ) → Of class w → past class (w ++ []) ≡ []
 after_all class [] h = refl
 after_all class (x ∷ w) h = after_more class x (w ++ []) h.0 ∙ after_all class w h.1
 
@@ -64,11 +64,11 @@ abbrev pub Apart : List ℕ → Type 0
 Apart [] = Unit {0}
 Apart (b ∷ bs) = blank b ≡ true
 
-front_apart : (w rest : List ℕ) → Of NotBlank w → Apart rest → front NotBlank (w ++ rest) ≡ w
+front_apart : (w rest : List ℕ) → Of NotBlank w → Apart rest → leading NotBlank (w ++ rest) ≡ w
 front_apart w [] h k = front_all NotBlank w h
 front_apart w (b ∷ rest) h k = front_of NotBlank b rest (rw k) w h
 
-after_apart : (w rest : List ℕ) → Of NotBlank w → Apart rest → after NotBlank (w ++ rest) ≡ rest
+after_apart : (w rest : List ℕ) → Of NotBlank w → Apart rest → past NotBlank (w ++ rest) ≡ rest
 after_apart w [] h k = after_all NotBlank w h
 after_apart w (b ∷ rest) h k = after_of NotBlank b rest (rw k) w h
 
@@ -83,9 +83,9 @@ pub words-front : (w rest : List ℕ) → Word w → Apart rest → words (w ++ 
 words-front [] rest h k = absurd (omega (arith, h.some))
 words-front (x ∷ w) rest h k =
     let bs = x ∷ (w ++ rest) in
-    let s : after Blank bs ≡ bs = after_ends Blank x (w ++ rest) (not-true (blank x) h.unbroken.0) in
-    let f : front NotBlank (after Blank bs) ≡ x ∷ w = ap (front NotBlank) s ∙ front_apart (x ∷ w) rest h.unbroken k in
-    let a : after NotBlank (after Blank bs) ≡ rest = ap (after NotBlank) s ∙ after_apart (x ∷ w) rest h.unbroken k in
+    let s : past Blank bs ≡ bs = after_ends Blank x (w ++ rest) (not-true (blank x) h.unbroken.0) in
+    let f : leading NotBlank (past Blank bs) ≡ x ∷ w = ap (leading NotBlank) s ∙ front_apart (x ∷ w) rest h.unbroken k in
+    let a : past NotBlank (past Blank bs) ≡ rest = ap (past NotBlank) s ∙ after_apart (x ∷ w) rest h.unbroken k in
     words-some bs (λ e. omega (arith, ap length f, e)) ∙ ap₂ (λ (v : List ℕ) (u : List ℕ). v ∷ words u) f a
 
 words-nil : words [] ≡ []
@@ -203,7 +203,7 @@ pub part_of : (class : Class) (w : List ℕ) → all_of class w ≡ true → Of 
 part_of class [] h = tt
 part_of class (b ∷ w) h = let p = and_parts (belongs class b) (all_of class w) h in (p.0, part_of class w p.1)
 
-part-word : (part : Part) → Word (part_text part)
+part-word : (part : PagePart) → Word (part_text part)
 part-word Kind = record { some = omega arith; unbroken = part_of NotBlank (part_text Kind) refl; on_line = part_of NotNewline (part_text Kind) refl }
 part-word Letters = record { some = omega arith; unbroken = part_of NotBlank (part_text Letters) refl; on_line = part_of NotNewline (part_text Letters) refl }
 part-word Window = record { some = omega arith; unbroken = part_of NotBlank (part_text Window) refl; on_line = part_of NotNewline (part_text Window) refl }
@@ -218,12 +218,12 @@ word_first : (n : ℕ) (w rest : List ℕ) → Word w → next_word n (w ++ rest
 word_first n [] rest h = absurd (omega (arith, h.some))
 word_first n (x ∷ w) rest h = rw (not-true (eqb x 10) h.on_line.0, not-true (blank x) h.unbroken.0)
 
--- the line of a part, at the text's front
-module _ (part : Part) (n : ℕ) (args rest : List ℕ) (on_line : Of NotNewline args) (apart : Apart args) where
+-- the line of a part, at the text's leading
+module _ (part : PagePart) (n : ℕ) (args rest : List ℕ) (on_line : Of NotNewline args) (apart : Apart args) where
   abbrev text : List ℕ
   text = part_text part ++ (args ++ (10 ∷ rest))
 
-  abbrev here : Place
+  abbrev here : TextPlace
   here = record { passed = n; text = text }
 
   pub row_text : row part here ≡ Ok (record { value = words args; line = n + 1; after = record { passed = n; text = 10 ∷ rest } })
@@ -232,24 +232,24 @@ module _ (part : Part) (n : ℕ) (args rest : List ℕ) (on_line : Of NotNewline
       let w = part-word part in
       let all = of-append NotNewline name args w.on_line on_line in
       let joins : text ≡ (name ++ args) ++ (10 ∷ rest) = sym (append_assoc name args (10 ∷ rest)) in
-      let f : front NotNewline text ≡ name ++ args = ap (front NotNewline) joins ∙ front_of NotNewline 10 rest refl (name ++ args) all in
-      let a : after NotNewline text ≡ 10 ∷ rest = ap (after NotNewline) joins ∙ after_of NotNewline 10 rest refl (name ++ args) all in
+      let f : leading NotNewline text ≡ name ++ args = ap (leading NotNewline) joins ∙ front_of NotNewline 10 rest refl (name ++ args) all in
+      let a : past NotNewline text ≡ 10 ∷ rest = ap (past NotNewline) joins ∙ after_of NotNewline 10 rest refl (name ++ args) all in
       let has = ap words f ∙ words-front name args w apart in
       let some = ne_eqb (length text) 0 (λ e. omega (arith, e, w.some, length-append name (args ++ (10 ∷ rest)))) in
       let same = (bytes_eq-Decides name name).1 refl in
       row_is part here here (sym (word_first n name (args ++ (10 ∷ rest)) w)) some name (words args) has same
       ∙ ap (λ (t : List ℕ). Ok (record { value = words args; line = n + 1; after = record { passed = n; text = t } })) a
 
--- the same after the end of a line
-row_next : (part : Part) (n : ℕ) (text : List ℕ) → row part (record { passed = n; text = 10 ∷ text }) ≡ row part (record { passed = n + 1; text = text })
+-- the same past the end of a line
+row_next : (part : PagePart) (n : ℕ) (text : List ℕ) → row part (record { passed = n; text = 10 ∷ text }) ≡ row part (record { passed = n + 1; text = text })
 unfolding row
 row_next part n rest = refl
 
-module _ (part : Part) (n : ℕ) (rest : List ℕ) where
-  abbrev line_at : List ℕ → Place
+module _ (part : PagePart) (n : ℕ) (rest : List ℕ) where
+  abbrev line_at : List ℕ → TextPlace
   line_at args = record { passed = n; text = 10 ∷ (part_text part ++ (args ++ (10 ∷ rest))) }
 
-  abbrev said : {X : Type 0} → X → Row X
+  abbrev said : {X : Type 0} → X → PageRow X
   said x = record { value = x; line = n + 1 + 1; after = record { passed = n + 1; text = 10 ∷ rest } }
 
   row_line : (args : List ℕ) → Of NotNewline args → Apart args → row part (line_at args) ≡ Ok (said (words args))
@@ -262,7 +262,7 @@ module _ (part : Part) (n : ℕ) (rest : List ℕ) where
       let place = line_at (32 ∷ w) in
       let word = decimal-word v h in
       let r = row_line (32 ∷ w) (refl, word.on_line) refl in
-      let one : Ok w ≡ only Number (n + 1 + 1) (words (32 ∷ w)) = rw (words_one w word) in
+      let one : Ok w ≡ only_word Number (n + 1 + 1) (words (32 ∷ w)) = rw (words_one w word) in
       sym (value-is number part Number place (said w) (word-is part Number place (said (words (32 ∷ w))) (sym r) w one) v (sym (number-decimal v h)))
 
   module _ {X : Type 0} (shows : X → List ℕ) (reads : List ℕ → Option X) (expected : Expected) where
@@ -287,10 +287,10 @@ unfolding kind_row
 kind-line kind rest =
     let w = kind_text kind in
     let word = kind-word kind in
-    let place : Place = record { passed = 0; text = part_text Kind ++ ((32 ∷ w) ++ (10 ∷ rest)) } in
-    let past : Place = record { passed = 0; text = 10 ∷ rest } in
+    let place : TextPlace = record { passed = 0; text = part_text Kind ++ ((32 ∷ w) ++ (10 ∷ rest)) } in
+    let past : TextPlace = record { passed = 0; text = 10 ∷ rest } in
     let r = row_text Kind 0 (32 ∷ w) rest (refl, word.on_line) refl in
-    let one : Ok w ≡ only expected.Kind 1 (words (32 ∷ w)) = rw (words_one w word) in
+    let one : Ok w ≡ only_word expected.Kind 1 (words (32 ∷ w)) = rw (words_one w word) in
     sym (value-is named_kind Kind expected.Kind place (record { value = w; line = 1; after = past }) (word-is Kind expected.Kind place (record { value = words (32 ∷ w); line = 1; after = past }) (sym r) w one) kind (sym (named_kind-text kind)))
 
 -- the line of the bytes, which is the last
@@ -308,7 +308,7 @@ each_all f [] h = tt
 each_all f (x ∷ xs) h = (f x h.0, each_all f xs h.1)
 
 module _ (kind : ChargeKind) (header : Header) (letters : List ℕ) (entries : List Entry) (bytes : ℕ) where
-  abbrev lines_from : Part → List ℕ → List ℕ → List ℕ
+  abbrev lines_from : PagePart → List ℕ → List ℕ → List ℕ
   lines_from part args rest = part_text part ++ (args ++ (10 ∷ rest))
 
   abbrev t_bytes : List ℕ
@@ -345,5 +345,5 @@ module _ (kind : ChargeKind) (header : Header) (letters : List ℕ) (entries : L
       let e6 = items-line Rule 4 t_density decimal letter expected.Letter letters (each_all (λ v l. decimal-word v (omega arith)) letters h.letter) (each_all letter-decimal letters h.letter) in
       let e7 = items-line Density 5 t_bytes (entry_text kind) (entry kind) expected.Entry entries (each_all (entry-word kind) entries h.entry) (each_all (entry-reads kind) entries h.entry) in
       let e8 = bytes-line 6 bytes h.count in
-      let content : ℕ → Reading Content = λ m. Ok (record { kind = kind; header = record { kind = m; q = header.q; n = header.n; l = header.l; k = header.k }; letters = letters; entries = entries; lines = page_lines }) in
+      let content : ℕ → TextReading Content = λ m. Ok (record { kind = kind; header = record { kind = m; q = header.q; n = header.n; l = header.l; k = header.k }; letters = letters; entries = entries; lines = page_lines }) in
       ap parsed page_lines-text ∙ rw (e1, e2, e3, e4, e5, e6, e7, e8) (ap content (sym h.same_kind))

@@ -5,18 +5,18 @@ use Rattle.fault.specs.declared.Fault.{Fault}
 use Rattle.fault.specs.Refusals.{Refusal, refusal, reason_of, sentence as fault-sentence}
 use Rattle.fault.specs.Answers.{and_then}
 use Rattle.preset.specs.Laws.{Bytes}
-use Rattle.preset.specs.Presets.{counted}
-use Rattle.preset.specs.Writes.{checked, preset_bytes, fitting}
-use Rattle.console.specs.Errors.{sentence as text-sentence}
+use Rattle.preset.specs.Presets.{item_count}
+use Rattle.preset.specs.Writes.{preset_to_write, preset_bytes, with_byte_room}
+use Rattle.console.specs.Errors.{text_sentence}
 use Rattle.console.specs.Grammar.{Content, parsed}
 use Rattle.console.specs.Refusals.{refused_line}
-use Rattle.console.specs.Rows.{Reading}
-use Rattle.console.specs.Shows.{shown}
+use Rattle.console.specs.Rows.{TextReading}
+use Rattle.console.specs.Shows.{page_shown}
 use Rattle.console.specs.declared.encode.EncodeError.{EncodeError}
 use Rattle.console.specs.declared.encode.EncodeError.TheVariants.{Text, Letters, Entries, Refused}
 use Rattle.console.specs.declared.error.TextError.{TextError}
 use Rattle.console.specs.declared.error.TextError.TheVariants.{Memory}
-use Rattle.console.specs.declared.lines.Lines.{Lines}
+use Rattle.console.specs.declared.part_lines.PartLines.{PartLines}
 
 -- no preset takes more bytes than this
 abbrev pub most_preset : ℕ
@@ -28,7 +28,7 @@ pub data Problem : Type 0 where
   text : TextError → Problem
   letters : ℕ → ℕ → Problem
   entries : ℕ → ℕ → Problem
-  refused : Lines → Refusal → Problem
+  refused : PartLines → Refusal → Problem
 
 abbrev pub Encoding : Type 0 → Type 0
 Encoding X = Result X Problem
@@ -49,11 +49,11 @@ abbrev pub Answered : {X : Type 0} → Encoding X → Encoding X → Type 0
 Answered r s = (r ≢ Err (text Memory)) → r ≡ s
 
 -- an error of the text, and a refusal of the writer
-abbrev pub from_text : {X : Type 0} → Reading X → Encoding X
+abbrev pub from_text : {X : Type 0} → TextReading X → Encoding X
 from_text (Ok x) = Ok x
 from_text (Err e) = Err (text e)
 
-abbrev pub from_writer : {X : Type 0} → Lines → Result X Refusal → Encoding X
+abbrev pub from_writer : {X : Type 0} → PartLines → Result X Refusal → Encoding X
 from_writer lines (Ok x) = Ok x
 from_writer lines (Err f) = Err (refused lines f)
 
@@ -68,23 +68,23 @@ unless_miscounted because (Some n) = Err (because n)
 
 abbrev pub counts_tested : Content → Encoding (Unit {0})
 counts_tested d =
-    and_then (unless_miscounted (letters d.lines.rule) (miscounted (counted most_window d.header.q d.header.n) (length d.letters))) (λ _.
-    unless_miscounted (entries d.lines.density) (miscounted (counted most_width d.header.q d.header.k) (length d.entries)))
+    and_then (unless_miscounted (letters d.lines.rule) (miscounted (item_count most_window d.header.q d.header.n) (length d.letters))) (λ _.
+    unless_miscounted (entries d.lines.density) (miscounted (item_count most_width d.header.q d.header.k) (length d.entries)))
 
 -- the bytes of what a page holds
 abbrev pub bytes_of : Content → Encoding (List ℕ)
 bytes_of d =
     and_then (counts_tested d) (λ _.
-    from_writer d.lines (and_then (checked d.header d.letters d.entries) (λ p. fitting most_preset (preset_bytes p))))
+    from_writer d.lines (and_then (preset_to_write d.header d.letters d.entries) (λ p. with_byte_room most_preset (preset_bytes p))))
 
 -- the bytes of the preset that a text writes
 abbrev pub encoded : List ℕ → Encoding (List ℕ)
 encoded bs = and_then (from_text (parsed bs)) bytes_of
 
--- what is shown of a preset is encoded as its bytes again
+-- what is page_shown of a preset is encoded as its bytes again
 abbrev pub ShownEncodesBack : Type 0
 ShownEncodesBack =
-    (bs page : List ℕ) → Bytes bs → length bs ≤ most_preset → shown bs ≡ Ok page → encoded page ≡ Ok bs
+    (bs page : List ℕ) → Bytes bs → length bs ≤ most_preset → page_shown bs ≡ Ok page → encoded page ≡ Ok bs
 
 -- why a page gives no preset, in one sentence: by the line of the part that is refused, if it is known
 abbrev pub refused_text : Fault → Option ℕ → List ℕ
@@ -92,7 +92,7 @@ refused_text fault None = fault-sentence fault
 refused_text fault (Some line) = codes "Line " ++ (decimal line ++ (codes ": " ++ (reason_of fault.stop ++ codes ".")))
 
 abbrev pub encode_sentence : EncodeError → List ℕ
-encode_sentence (Text e) = text-sentence e
+encode_sentence (Text e) = text_sentence e
 encode_sentence (Letters line n) = codes "Line " ++ (decimal line ++ (codes ": expected " ++ (decimal n ++ codes " letters.")))
 encode_sentence (Entries line n) = codes "Line " ++ (decimal line ++ (codes ": expected " ++ (decimal n ++ codes " entries.")))
 encode_sentence (Refused lines fault) = refused_text fault (refused_line lines fault.stop)

@@ -5,10 +5,10 @@ use Rattle.charge.specs.declared.kind.ChargeKind.{ChargeKind}
 use Rattle.charge.specs.declared.kind.ChargeKind.TheVariants.{Voices, Pitch, Channels, Both}
 use Rattle.preset.specs.declared.entry.Entry.{Entry}
 use Rattle.console.specs.Numbers.{number, signed_number}
-use Rattle.console.specs.Words.{front, after}
+use Rattle.console.specs.Cutting.{leading, past}
 use Rattle.console.specs.declared.error.Expected.{Expected}
 use Rattle.console.specs.declared.error.Expected.TheVariants as expected
-use Rattle.console.specs.declared.words.Class.TheVariants.{NotColon}
+use Rattle.console.specs.declared.cutting.Class.TheVariants.{NotColon}
 
 -- How an item is read from a word and written as a word, under a kind of charge, and what is expected where
 -- a word is no item.
@@ -31,7 +31,7 @@ paired None p = None
 paired (Some s) None = None
 paired (Some s) (Some p) = Some (record { signed = s; plain = p })
 
--- the parts before and after a colon
+-- the parts before and past a colon
 abbrev pub halves : List ℕ → List ℕ → Option Entry
 halves w [] = None
 halves w (colon ∷ v) = paired (signed_number w) (number v)
@@ -40,7 +40,7 @@ abbrev pub entry : ChargeKind → List ℕ → Option Entry
 entry Voices w = paired (signed_number w) (Some 0)
 entry Pitch w = paired (Some (pos 0)) (number w)
 entry Channels w = paired (Some (pos 0)) (number w)
-entry Both w = halves (front NotColon w) (after NotColon w)
+entry Both w = halves (leading NotColon w) (past NotColon w)
 
 abbrev pub entry_text : ChargeKind → Entry → List ℕ
 entry_text Voices e = signed_decimal e.signed

@@ -6,13 +6,13 @@ use Rattle.fault.specs.Answers.{and_then}
 use Rattle.preset.specs.declared.entry.Entry.{Entry}
 use Rattle.preset.specs.declared.header.Header.{Header}
 use Rattle.console.specs.Forms.{letter, entry}
-use Rattle.console.specs.Rows.{Row, Reading, kind_row, number_row, items_row, ending}
-use Rattle.console.specs.Words.{Place, words_left}
-use Rattle.console.specs.declared.draft.Draft.{Draft}
+use Rattle.console.specs.Rows.{PageRow, TextReading, kind_row, number_row, items_row, ending}
+use Rattle.console.specs.Cutting.{TextPlace, words_left}
+use Rattle.console.specs.declared.parsed_page.ParsedPage.{ParsedPage}
 use Rattle.console.specs.declared.error.Expected.TheVariants as expected
-use Rattle.console.specs.declared.lines.Lines.{Lines}
+use Rattle.console.specs.declared.part_lines.PartLines.{PartLines}
 use Rattle.console.specs.declared.outline.Outline.{Outline}
-use Rattle.console.specs.declared.part.Part.TheVariants.{Letters, Window, Reach, Width, Rule, Density}
+use Rattle.console.specs.declared.page_part.PagePart.TheVariants.{Letters, Window, Reach, Width, Rule, Density}
 
 -- What a page holds, and the lines that its parts stand on.
 pub record Content : Type 0 where
@@ -20,9 +20,9 @@ pub record Content : Type 0 where
   pub header : Header
   pub letters : List ℕ
   pub entries : List Entry
-  pub lines : Lines
+  pub lines : PartLines
 
-abbrev pub content : Draft → Content
+abbrev pub content : ParsedPage → Content
 content d = record { kind = d.kind; header = d.header; letters = vec_items d.letters; entries = vec_items d.entries; lines = d.lines }
 
 -- the same of an outline, whose rows are the words that write the items
@@ -31,14 +31,14 @@ outlined o = record { kind = o.kind; header = o.header; letters = filter_map let
 
 -- the lines of the kind and the sizes
 pub record Sizes : Type 0 where
-  pub kind : Row ChargeKind
-  pub q : Row ℕ
-  pub n : Row ℕ
-  pub l : Row ℕ
-  pub k : Row ℕ
+  pub kind : PageRow ChargeKind
+  pub q : PageRow ℕ
+  pub n : PageRow ℕ
+  pub l : PageRow ℕ
+  pub k : PageRow ℕ
 
 -- one part after another
-abbrev pub sizes_at : Place → Reading Sizes
+abbrev pub sizes_at : TextPlace → TextReading Sizes
 sizes_at start =
     and_then (kind_row start) (λ kind.
     and_then (number_row Letters kind.after) (λ q.
@@ -47,7 +47,7 @@ sizes_at start =
     and_then (number_row Width l.after) (λ k.
     Ok (record { kind = kind; q = q; n = n; l = l; k = k }))))))
 
-abbrev pub parsed_at : Place → Reading Content
+abbrev pub parsed_at : TextPlace → TextReading Content
 parsed_at start =
     and_then (sizes_at start) (λ s.
     and_then (items_row letter expected.Letter Rule s.k.after) (λ rule.
@@ -62,8 +62,8 @@ parsed_at start =
     })))))
 
 -- the text from its first line on
-abbrev pub text_start : List ℕ → Place
+abbrev pub text_start : List ℕ → TextPlace
 text_start text = record { passed = 0; text = text }
 
-abbrev pub parsed : List ℕ → Reading Content
+abbrev pub parsed : List ℕ → TextReading Content
 parsed text = parsed_at (text_start text)

@@ -10,4 +10,4 @@ pub mod ReadBack
 pub mod Refusals
 pub mod Rows
 pub mod Shows
-pub mod Words
+pub mod Cutting

@@ -3,8 +3,8 @@ use Rattle.std.specs.Prelude.{ℕ, cond, List, Some, None, codes, Option}
 use Rattle.std.specs.Str.{bytes_eq}
 use Rattle.charge.specs.declared.kind.ChargeKind.{ChargeKind}
 use Rattle.charge.specs.declared.kind.ChargeKind.TheVariants as kind
-use Rattle.console.specs.declared.part.Part.{Part}
-use Rattle.console.specs.declared.part.Part.TheVariants.{Kind, Letters, Window, Reach, Width, Rule, Density, Bytes}
+use Rattle.console.specs.declared.page_part.PagePart.{PagePart}
+use Rattle.console.specs.declared.page_part.PagePart.TheVariants.{Kind, Letters, Window, Reach, Width, Rule, Density, Bytes}
 
 abbrev pub kind_text : ChargeKind → List ℕ
 kind_text kind.Voices = codes "voices"
@@ -21,7 +21,7 @@ named_kind w =
     (cond (bytes_eq w (kind_text kind.Both)) (Some kind.Both) None)))
 
 -- each part stands on a line of its own, which begins with the part's name
-abbrev pub part_text : Part → List ℕ
+abbrev pub part_text : PagePart → List ℕ
 part_text Kind = codes "kind"
 part_text Letters = codes "letters"
 part_text Window = codes "window"

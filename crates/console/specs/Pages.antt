@@ -22,8 +22,8 @@ head_text kind header =
     ++ codes "\n")))))))))
 
 -- the lines of the rule and the density by their items, and of the bytes
-abbrev pub rows_text : List ℕ → List ℕ → ℕ → List ℕ
-rows_text rule density bytes =
+abbrev pub items_text : List ℕ → List ℕ → ℕ → List ℕ
+items_text rule density bytes =
     codes "rule" ++ (rule
     ++ (codes "\ndensity" ++ (density
     ++ (codes "\nbytes " ++ (decimal bytes
@@ -31,4 +31,4 @@ rows_text rule density bytes =
 
 abbrev pub page_text : ChargeKind → Header → List ℕ → List Entry → ℕ → List ℕ
 page_text kind header letters entries bytes =
-    head_text kind header ++ rows_text (spaced decimal letters) (spaced (entry_text kind) entries) bytes
+    head_text kind header ++ items_text (spaced decimal letters) (spaced (entry_text kind) entries) bytes

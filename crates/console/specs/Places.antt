@@ -1,10 +1,10 @@
 -- Places of a text. Assumes nothing.
-use Rattle.console.specs.Words.{Place, next_word}
-use Rattle.console.specs.declared.place.Place.{Place as PlaceOf}
+use Rattle.console.specs.Cutting.{TextPlace, next_word}
+use Rattle.console.specs.declared.place.Place.{Place}
 
 -- a place as plain numbers
-abbrev pub at : PlaceOf → Place
-at p = record { passed = p.passed; text = p.text.now }
+abbrev pub place_meant : Place → TextPlace
+place_meant p = record { passed = p.passed; text = p.text.now }
 
-abbrev pub next : Place → Place
-next p = next_word p.passed p.text
+abbrev pub next_place : TextPlace → TextPlace
+next_place p = next_word p.passed p.text

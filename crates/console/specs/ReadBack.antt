@@ -8,7 +8,7 @@ use Rattle.preset.specs.declared.entry.Entry.{Entry}
 use Rattle.preset.specs.declared.header.Header.{Header}
 use Rattle.console.specs.Grammar.{parsed}
 use Rattle.console.specs.Numbers.{number_end}
-use Rattle.console.specs.declared.lines.Lines.{Lines}
+use Rattle.console.specs.declared.part_lines.PartLines.{PartLines}
 
 -- an entry has the parts of its kind and no other, and they are numbers of a page
 abbrev pub OfKind : ChargeKind → Entry → Type 0
@@ -29,7 +29,7 @@ pub record Holdable (kind : ChargeKind) (header : Header) (letters : List ℕ) (
   pub count : bytes < number_end
 
 -- a page of eight lines
-abbrev pub page_lines : Lines
+abbrev pub page_lines : PartLines
 page_lines = record { kind = 1; letters = 2; window = 3; reach = 4; width = 5; rule = 6; density = 7 }
 
 -- a text is read as a preset

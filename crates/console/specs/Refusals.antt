@@ -2,10 +2,10 @@
 use Rattle.std.specs.Prelude.{ℕ, Some, None, Option}
 use Rattle.fault.specs.declared.Stop.{Stop}
 use Rattle.fault.specs.declared.Stop.TheVariants.{CutShort, Misspelt, UnknownKind, BadAlphabet, BadWindow, BadReach, BadWidth, AlphabetsDiffer, TooManyWords, SurplusBytes, BadLength, ShortStrip, BadPosition, BadLetter, BadEntry}
-use Rattle.console.specs.declared.lines.Lines.{Lines}
+use Rattle.console.specs.declared.part_lines.PartLines.{PartLines}
 
 -- the line of the part that a stop code speaks of, if it speaks of one
-abbrev pub refused_line : Lines → Stop → Option ℕ
+abbrev pub refused_line : PartLines → Stop → Option ℕ
 refused_line lines CutShort = None
 refused_line lines Misspelt = None
 refused_line lines UnknownKind = Some lines.kind

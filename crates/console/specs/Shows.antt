@@ -1,4 +1,4 @@
--- What is shown of a preset's bytes. Assumes nothing.
+-- What is page_shown of a preset's bytes. Assumes nothing.
 use Rattle.std.specs.Prelude.{ℕ, List, length, Some, None, Ok, Err, Option, Result}
 use Rattle.fault.specs.declared.Fault.{Fault}
 use Rattle.fault.specs.Refusals.{Refusal, refusal}
@@ -13,8 +13,8 @@ abbrev pub page_of : ℕ → Preset → List ℕ
 page_of bytes p = page_text p.head.kind p.head.header p.letters p.entries bytes
 
 -- the page of the preset that the bytes are, or its refusal
-abbrev pub shown : List ℕ → Result (List ℕ) Refusal
-shown bs = and_then (whole_preset bs) (λ p. Ok (page_of (length bs) p))
+abbrev pub page_shown : List ℕ → Result (List ℕ) Refusal
+page_shown bs = and_then (whole_preset bs) (λ p. Ok (page_of (length bs) p))
 
 -- an answer by what its value stands for, and by the numbers of its refusal
 abbrev pub told : {X Y : Type 0} → (X → Y) → Result X Fault → Result Y Refusal

@@ -3,15 +3,15 @@ ghost use Rattle.std.specs.Prelude.{◌≡◌, ◌≢◌, ◌≤◌, Some, None,
 ghost use Rattle.preset.specs.Writes.{writing};
 ghost use Rattle.console.specs.Encodes.{most_preset, answered, Answered, from_writer, miscounted, bytes_of, encoded, encode_sentence};
 ghost use Rattle.console.specs.Grammar.{outlined};
-ghost use Rattle.console.specs.Words.{words_left};
+ghost use Rattle.console.specs.Cutting.{words_left};
 ghost use Rattle.console.specs.declared.encode.EncodeError.TheVariants.{Text};
 ghost use Rattle.console.specs.declared.error.TextError.TheVariants.{Memory};
 
 use crate::error::TextError;
-use crate::item::Item;
-use crate::lines::{Lines, line_of_refusal};
+use crate::item::PageItem;
+use crate::part_lines::{PartLines, line_of_refusal};
 use crate::outline::{Outline, read_outline};
-use crate::words::Words;
+use crate::cutting::LineWords;
 use charge::ChargeKind;
 use fault::Fault;
 use preset::{Entry, Header, STRIP, write_preset};
@@ -29,11 +29,11 @@ pub enum EncodeError {
     Text(TextError),
     Letters { line: usize, count: usize },
     Entries { line: usize, count: usize },
-    Refused { lines: Lines, fault: Fault },
+    Refused { lines: PartLines, fault: Fault },
 }
 
 // Fills a strip with the items that words write, and answers whether there are as many as it is long.
-fn fill<T: Item>(kind: ChargeKind, words: Words<'_>, strip: &mut [T]) -> bool
+fn fill<T: PageItem>(kind: ChargeKind, words: LineWords<'_>, strip: &mut [T]) -> bool
     ensures { let items = filter_map (T.form.reads kind) (words_left words.entry) in
         MatchBool result (strip.new ≡ items) (length strip.old ≢ length items) }
 {
@@ -52,10 +52,10 @@ fn fill<T: Item>(kind: ChargeKind, words: Words<'_>, strip: &mut [T]) -> bool
 
 // The items that words write, in front of a strip, if there are as many as a header counts; else that count. A header
 // that counts none is refused whatever the items are, so none are taken.
-fn counted_items<'s, T: Item>(
+fn counted_items<'s, T: PageItem>(
     count: Option<usize>,
     kind: ChargeKind,
-    words: Words<'_>,
+    words: LineWords<'_>,
     strip: &'s mut [T],
 ) -> Result<&'s [T], usize>
     requires { IfSome count (λ n. n ≤ length strip.old) }
@@ -80,7 +80,7 @@ fn write_front<'o>(
     header: Header,
     letters: &[u8],
     entries: &[Entry],
-    lines: Lines,
+    lines: PartLines,
     out: &'o mut [u8],
 ) -> Result<&'o [u8], EncodeError>
     ensures { answered (λ s. s.now) result

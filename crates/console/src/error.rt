@@ -1,9 +1,9 @@
 // Why a text is not a page.
-ghost use Rattle.console.specs.Errors.{expected_text, sentence};
+ghost use Rattle.console.specs.Errors.{expected_text, text_sentence};
 ghost use Rattle.std.specs.Prelude.{◌≡◌, Some};
 ghost use Rattle.console.specs.declared.error.TextError.TheVariants.{Memory};
 
-use crate::part::Part;
+use crate::page_part::PagePart;
 use std::alloc::{AllocError, AllocFailed};
 use std::error::Error;
 use std::fmt;
@@ -11,7 +11,7 @@ use std::fmt;
 // What should stand in place of what was read.
 #[derive(Clone, Copy, PartialEq, Eq, Debug)]
 pub enum Expected {
-    Name(Part),
+    Name(PagePart),
     Kind,
     Number,
     Letter,
@@ -39,16 +39,16 @@ impl fmt::Display for Expected {
     }
 }
 
-// There is no memory, the text ends where a part is due, or a line is wrong. Lines are counted from 1.
+// There is no memory, the text ends where a part is due, or a line is wrong. PartLines are counted from 1.
 #[derive(Clone, Copy, PartialEq, Eq, Debug)]
 pub enum TextError {
     Memory,
-    Ended { due: Part },
+    Ended { due: PagePart },
     Wrong { line: usize, expected: Expected },
 }
 
 impl fmt::Display for TextError {
-    ghost output = { λ e. Some (sentence e) };
+    ghost output = { λ e. Some (text_sentence e) };
 
     fn fmt<W: fmt::Write>(&self, f: &mut fmt::Formatter<W>) -> fmt::Result {
         match self {

@@ -6,14 +6,14 @@ ghost use Rattle.console.specs.Forms.{entry as entry_of};
 
 use crate::error::Expected;
 use crate::number::{read_number, read_signed};
-use crate::words::{Class, cut};
+use crate::cutting::{Class, cut};
 use charge::ChargeKind;
 use preset::Entry;
 use std::alloc::AllocError;
 use std::fmt;
 
 // What stands in a row of a page. The member `form` says how it is read and written.
-pub(crate) trait Item: Copy {
+pub(crate) trait PageItem: Copy {
     ghost form: { Form Self };
 
     // The item that a word writes, if it writes one.
@@ -30,7 +30,7 @@ pub(crate) trait Item: Copy {
             ≡ string_bytes row.old ++ (32 ∷ form.shows kind self)) };
 }
 
-impl Item for u8 {
+impl PageItem for u8 {
     ghost form = { letter_form };
 
     fn from_word(_kind: ChargeKind, word: &[u8]) -> Option<u8> {
@@ -86,7 +86,7 @@ impl fmt::Display for EntryWord {
     }
 }
 
-impl Item for Entry {
+impl PageItem for Entry {
     ghost form = { entry_form };
 
     fn from_word(kind: ChargeKind, word: &[u8]) -> Option<Entry> {

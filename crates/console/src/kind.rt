@@ -2,7 +2,7 @@
 ghost use Rattle.std.specs.Prelude.{◌≡◌};
 ghost use Rattle.console.specs.Names.{kind_text, named_kind};
 
-use crate::words::is_text;
+use crate::cutting::is_text;
 use charge::ChargeKind;
 
 const KINDS: [ChargeKind; 4] = [

@@ -1,33 +1,33 @@
 // The text form of a preset: a page that is written, and a page that is read. Assumes nothing.
 #![tactic(auto)]
 
-mod draft;
+mod parsed_page;
 mod encode;
 mod error;
 mod failure;
 mod item;
 mod kind;
-mod lines;
+mod part_lines;
 mod number;
 mod outline;
-mod part;
+mod page_part;
 mod place;
 mod reader;
 mod row;
 mod show;
-mod words;
+mod cutting;
 mod writer;
 
-pub use draft::Draft;
+pub use parsed_page::ParsedPage;
 pub use encode::{EncodeError, encode_page};
 pub use error::{Expected, TextError};
 pub use failure::ShowError;
 pub use item::EntryWord;
 pub use kind::{kind_name, kind_named};
-pub use lines::{Lines, line_of_refusal};
+pub use part_lines::{PartLines, line_of_refusal};
 pub use number::{NUMBER_END, read_number};
-pub use part::Part;
+pub use page_part::PagePart;
 pub use reader::parse;
 pub use show::show_preset;
-pub use words::{Class, Split, Words, cut, is_text};
+pub use cutting::{Class, Split, LineWords, cut, is_text};
 pub use writer::page;

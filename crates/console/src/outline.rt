@@ -2,18 +2,18 @@
 ghost use Rattle.std.specs.Prelude.{◌≡◌, filter_map};
 ghost use Rattle.std.specs.Option.{ok_or};
 ghost use Rattle.console.specs.Grammar.{outlined, parsed};
-ghost use Rattle.console.specs.Places.{at};
+ghost use Rattle.console.specs.Places.{place_meant};
 ghost use Rattle.console.specs.Rows.{read, row_of, each, items_row};
-ghost use Rattle.console.specs.Words.{words_left};
+ghost use Rattle.console.specs.Cutting.{words_left};
 ghost use Rattle.console.specs.declared.error.TextError.TheVariants.{Wrong};
 
 use crate::error::TextError;
-use crate::item::Item;
-use crate::lines::Lines;
-use crate::part::Part;
+use crate::item::PageItem;
+use crate::part_lines::PartLines;
+use crate::page_part::PagePart;
 use crate::place::Place;
 use crate::row::{Row, read_end, read_kind_row, read_number_row, read_row};
-use crate::words::Words;
+use crate::cutting::LineWords;
 use charge::ChargeKind;
 use preset::{Entry, Header};
 
@@ -22,13 +22,13 @@ use preset::{Entry, Header};
 pub(crate) struct Outline<'a> {
     pub kind: ChargeKind,
     pub header: Header,
-    pub letters: Words<'a>,
-    pub entries: Words<'a>,
-    pub lines: Lines,
+    pub letters: LineWords<'a>,
+    pub entries: LineWords<'a>,
+    pub lines: PartLines,
 }
 
 // The item that a word of a line writes.
-fn read_item<T: Item>(kind: ChargeKind, line: usize, word: &[u8]) -> Result<T, TextError>
+fn read_item<T: PageItem>(kind: ChargeKind, line: usize, word: &[u8]) -> Result<T, TextError>
     ensures { result ≡ ok_or (T.form.reads kind word.now) (Wrong line T.form.expected) }
 {
     T::from_word(kind, word).ok_or(TextError::Wrong {
@@ -39,7 +39,7 @@ fn read_item<T: Item>(kind: ChargeKind, line: usize, word: &[u8]) -> Result<T, T
 
 // Each word of a line writes an item.
 #[tactic(auto, using(crate::proofs::Reading::each_is))]
-fn check_items<T: Item>(kind: ChargeKind, line: usize, words: Words<'_>) -> Result<(), TextError>
+fn check_items<T: PageItem>(kind: ChargeKind, line: usize, words: LineWords<'_>) -> Result<(), TextError>
     ensures { let words = words_left words.entry in
         read (λ _. filter_map (T.form.reads kind) words) result
         ≡ each (T.form.reads kind) T.form.expected line words }
@@ -51,14 +51,14 @@ fn check_items<T: Item>(kind: ChargeKind, line: usize, words: Words<'_>) -> Resu
 }
 
 // The words after the part's name in the part's line, each of which writes an item.
-fn read_items_row<'a, T: Item>(
+fn read_items_row<'a, T: PageItem>(
     kind: ChargeKind,
-    part: Part,
+    part: PagePart,
     place: Place<'a>,
-) -> Result<Row<'a, Words<'a>>, TextError>
+) -> Result<Row<'a, LineWords<'a>>, TextError>
     ensures { let reads = T.form.reads kind in
         read (row_of (λ words. filter_map reads (words_left words))) result
-        ≡ items_row reads T.form.expected part (at place.entry) }
+        ≡ items_row reads T.form.expected part (place_meant place.entry) }
 {
     let row = read_row(part, place)?;
     check_items::<T>(kind, row.line, row.value)?;
@@ -70,12 +70,12 @@ pub(crate) fn read_outline(text: &[u8]) -> Result<Outline<'_>, TextError>
     ensures { read outlined result ≡ parsed text.now }
 {
     let kind = read_kind_row(Place { passed: 0, text })?;
-    let q = read_number_row(Part::Letters, kind.after)?;
-    let n = read_number_row(Part::Window, q.after)?;
-    let l = read_number_row(Part::Reach, n.after)?;
-    let k = read_number_row(Part::Width, l.after)?;
-    let rule = read_items_row::<u8>(kind.value, Part::Rule, k.after)?;
-    let density = read_items_row::<Entry>(kind.value, Part::Density, rule.after)?;
+    let q = read_number_row(PagePart::Letters, kind.after)?;
+    let n = read_number_row(PagePart::Window, q.after)?;
+    let l = read_number_row(PagePart::Reach, n.after)?;
+    let k = read_number_row(PagePart::Width, l.after)?;
+    let rule = read_items_row::<u8>(kind.value, PagePart::Rule, k.after)?;
+    let density = read_items_row::<Entry>(kind.value, PagePart::Density, rule.after)?;
     read_end(density.after)?;
     Ok(Outline {
         kind: kind.value,
@@ -88,7 +88,7 @@ pub(crate) fn read_outline(text: &[u8]) -> Result<Outline<'_>, TextError>
         },
         letters: rule.value,
         entries: density.value,
-        lines: Lines {
+        lines: PartLines {
             kind: kind.line,
             letters: q.line,
             window: n.line,

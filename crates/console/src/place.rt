@@ -1,7 +1,7 @@
 // A place in a text.
 ghost use Rattle.std.specs.Prelude.{◌≡◌, ◌+◌, ◌^◌, ◌<◌, length};
 
-use crate::words::is_blank;
+use crate::cutting::is_blank;
 
 // How many lines end before the place, and the text from there on.
 #[derive(Clone, Copy)]
@@ -13,11 +13,11 @@ pub(crate) struct Place<'a> {
 }
 
 impl<'a> Place<'a> {
-    ghost use Rattle.console.specs.Places.{at, next};
+    ghost use Rattle.console.specs.Places.{place_meant, next_place};
 
     // The place of the next word, or of the text's end.
     pub(crate) fn next_word(self) -> Place<'a>
-        ensures { at result ≡ next (at self.entry) }
+        ensures { place_meant result ≡ next_place (place_meant self.entry) }
     {
         let mut passed = self.passed;
         for (i, byte) in self.text.iter().enumerate() {

@@ -2,22 +2,22 @@
 ghost use Rattle.std.specs.Prelude.{◌≡◌, Ok, Err, IfErr, vec_items, filter_map};
 ghost use Rattle.console.specs.Grammar.{content, parsed};
 ghost use Rattle.console.specs.Rows.{read, Told};
-ghost use Rattle.console.specs.Words.{words_left};
+ghost use Rattle.console.specs.Cutting.{words_left};
 
-use crate::draft::Draft;
+use crate::parsed_page::ParsedPage;
 use crate::error::TextError;
-use crate::item::Item;
+use crate::item::PageItem;
 use crate::outline::read_outline;
-use crate::words::Words;
+use crate::cutting::LineWords;
 use charge::ChargeKind;
 use preset::Entry;
 use std::alloc::Global;
 
 // The items that words write, on the heap. The words of an outline all write one.
-fn collect_items<T: Item>(
+fn collect_items<T: PageItem>(
     alloc: Global,
     kind: ChargeKind,
-    words: Words<'_>,
+    words: LineWords<'_>,
 ) -> Result<Vec<T>, TextError>
     ensures { let items = filter_map (T.form.reads kind) (words_left words.entry) in
         Told (read vec_items result) (Ok items) }
@@ -32,7 +32,7 @@ fn collect_items<T: Item>(
 }
 
 // Reads a page. The numbers of the header and the counts of letters and entries are not checked.
-pub fn parse(alloc: Global, text: &[u8]) -> Result<Draft, TextError>
+pub fn parse(alloc: Global, text: &[u8]) -> Result<ParsedPage, TextError>
     ensures draft { Told (read content result) (parsed text.now) }
     // No memory is needed to tell what is wrong with a text.
     ensures wrong { IfErr (parsed text.now) (λ e. read content result ≡ Err e) }
@@ -40,7 +40,7 @@ pub fn parse(alloc: Global, text: &[u8]) -> Result<Draft, TextError>
     let page = read_outline(text)?;
     let letters = collect_items::<u8>(alloc, page.kind, page.letters)?;
     let entries = collect_items::<Entry>(alloc, page.kind, page.entries)?;
-    Ok(Draft {
+    Ok(ParsedPage {
         kind: page.kind,
         header: page.header,
         letters,

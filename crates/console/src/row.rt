@@ -1,17 +1,17 @@
 // The lines of a page, each with one part of a preset.
 ghost use Rattle.std.specs.Prelude.{◌≡◌};
 ghost use Rattle.std.specs.Option.{ok_or, option_map};
-ghost use Rattle.console.specs.Places.{at};
-ghost use Rattle.console.specs.Rows.{read, row_of, row, only, word_row, kind_row, number_row, ending};
-ghost use Rattle.console.specs.Words.{words_left};
+ghost use Rattle.console.specs.Places.{place_meant};
+ghost use Rattle.console.specs.Rows.{read, row_of, row, only_word, word_row, kind_row, number_row, ending};
+ghost use Rattle.console.specs.Cutting.{words_left};
 ghost use Rattle.console.specs.declared.error.TextError.TheVariants.{Wrong};
 
 use crate::error::{Expected, TextError};
 use crate::kind::kind_named;
 use crate::number::read_number;
-use crate::part::Part;
+use crate::page_part::PagePart;
 use crate::place::Place;
-use crate::words::{Class, Words, cut, is_text};
+use crate::cutting::{Class, LineWords, cut, is_text};
 use charge::ChargeKind;
 
 // What a line says, its number counted from 1, and the place after it.
@@ -44,8 +44,8 @@ impl<'a, T: Copy> Row<'a, T> {
 }
 
 // The words after the part's name in the part's line.
-pub(crate) fn read_row<'a>(part: Part, place: Place<'a>) -> Result<Row<'a, Words<'a>>, TextError>
-    ensures { read (row_of words_left) result ≡ row part (at place.entry) }
+pub(crate) fn read_row<'a>(part: PagePart, place: Place<'a>) -> Result<Row<'a, LineWords<'a>>, TextError>
+    ensures { read (row_of words_left) result ≡ row part (place_meant place.entry) }
 {
     let start = place.next_word();
     if start.text.is_empty() {
@@ -57,7 +57,7 @@ pub(crate) fn read_row<'a>(part: Part, place: Place<'a>) -> Result<Row<'a, Words
         expected: Expected::Name(part),
     };
     let parts = cut(Class::NotNewline, start.text);
-    let mut words = Words { line: parts.front };
+    let mut words = LineWords { line: parts.front };
     let Some(name) = words.next() else {
         return Err(wrong);
     };
@@ -75,8 +75,8 @@ pub(crate) fn read_row<'a>(part: Part, place: Place<'a>) -> Result<Row<'a, Words
 }
 
 // The only word of a line.
-fn only_word<'a>(expected: Expected, row: Row<'a, Words<'a>>) -> Result<&'a [u8], TextError>
-    ensures { read (λ s. s.now) result ≡ only expected row.entry.line (words_left row.entry.value) }
+fn only_word<'a>(expected: Expected, row: Row<'a, LineWords<'a>>) -> Result<&'a [u8], TextError>
+    ensures { read (λ s. s.now) result ≡ only_word expected row.entry.line (words_left row.entry.value) }
 {
     let line = row.line;
     let mut words = row.value;
@@ -94,11 +94,11 @@ fn only_word<'a>(expected: Expected, row: Row<'a, Words<'a>>) -> Result<&'a [u8]
 
 // The only word after the part's name in the part's line.
 fn read_word<'a>(
-    part: Part,
+    part: PagePart,
     expected: Expected,
     place: Place<'a>,
 ) -> Result<Row<'a, &'a [u8]>, TextError>
-    ensures { read (row_of (λ s. s.now)) result ≡ word_row part expected (at place.entry) }
+    ensures { read (row_of (λ s. s.now)) result ≡ word_row part expected (place_meant place.entry) }
 {
     let row = read_row(part, place)?;
     let word = only_word(expected, row)?;
@@ -106,8 +106,8 @@ fn read_word<'a>(
 }
 
 // The number in the part's line.
-pub(crate) fn read_number_row<'a>(part: Part, place: Place<'a>) -> Result<Row<'a, u64>, TextError>
-    ensures { read (row_of (λ v. v)) result ≡ number_row part (at place.entry) }
+pub(crate) fn read_number_row<'a>(part: PagePart, place: Place<'a>) -> Result<Row<'a, u64>, TextError>
+    ensures { read (row_of (λ v. v)) result ≡ number_row part (place_meant place.entry) }
 {
     let row = read_word(part, Expected::Number, place)?;
     row.with(read_number(row.value), Expected::Number)
@@ -115,20 +115,20 @@ pub(crate) fn read_number_row<'a>(part: Part, place: Place<'a>) -> Result<Row<'a
 
 // The kind of charge in its line.
 pub(crate) fn read_kind_row<'a>(place: Place<'a>) -> Result<Row<'a, ChargeKind>, TextError>
-    ensures { read (row_of (λ v. v)) result ≡ kind_row (at place.entry) }
+    ensures { read (row_of (λ v. v)) result ≡ kind_row (place_meant place.entry) }
 {
-    let row = read_word(Part::Kind, Expected::Kind, place)?;
+    let row = read_word(PagePart::Kind, Expected::Kind, place)?;
     row.with(kind_named(row.value), Expected::Kind)
 }
 
 // The line with the number of bytes, which may be left out, and then the end of the text.
 pub(crate) fn read_end(place: Place<'_>) -> Result<(), TextError>
-    ensures { result ≡ ending (at place.entry) }
+    ensures { result ≡ ending (place_meant place.entry) }
 {
     if place.next_word().text.is_empty() {
         return Ok(());
     }
-    let bytes = read_number_row(Part::Bytes, place)?;
+    let bytes = read_number_row(PagePart::Bytes, place)?;
     let end = bytes.after.next_word();
     if !end.text.is_empty() {
         return Err(TextError::Wrong {

@@ -1,23 +1,23 @@
 // A preset's bytes shown as a page.
 ghost use Rattle.std.specs.Prelude.{◌≡◌, Some, IfSome, IfErr, string_bytes};
 ghost use Rattle.console.specs.Encodes.{ShownEncodesBack};
-ghost use Rattle.console.specs.Shows.{shown, told, unless_memory, refusal_told};
+ghost use Rattle.console.specs.Shows.{page_shown, told, unless_memory, refusal_told};
 ghost use Rattle.console.specs.declared.failure.ShowError.TheVariants.{Memory, Refused};
 
 use crate::failure::ShowError;
 use crate::writer::page;
-use preset::Strips;
+use preset::PresetStrips;
 use std::alloc::Global;
 
 // The page of the preset that the bytes are, or its refusal.
 #[tactic(auto, using(crate::proofs::ShownBack::shown_encodes_back))]
 pub fn show_preset(alloc: Global, input: &[u8]) -> Result<String, ShowError>
-    ensures page { IfSome (unless_memory result) (λ s. told string_bytes s ≡ shown input.now) }
+    ensures page { IfSome (unless_memory result) (λ s. told string_bytes s ≡ page_shown input.now) }
     // No memory is needed to tell a refusal.
-    ensures refused { IfErr (shown input.now) (λ f. refusal_told result ≡ Some f) }
+    ensures refused { IfErr (page_shown input.now) (λ f. refusal_told result ≡ Some f) }
     ensures encodes_back { ShownEncodesBack }
 {
-    let mut strips = Strips::new();
+    let mut strips = PresetStrips::new();
     let preset = strips.read(input)?;
     let text = page(
         alloc,

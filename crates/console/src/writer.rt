@@ -1,16 +1,16 @@
 // A preset as a page of text.
 ghost use Rattle.std.specs.Prelude.{◌≡◌, IfOk, string_bytes};
-ghost use Rattle.console.specs.Pages.{spaced, head_text, rows_text, page_text};
+ghost use Rattle.console.specs.Pages.{spaced, head_text, items_text, page_text};
 ghost use Rattle.console.specs.ReadBack.{Holdable, ReadsAs};
 
-use crate::item::Item;
+use crate::item::PageItem;
 use crate::kind::kind_name;
 use charge::ChargeKind;
 use preset::{Entry, Header};
 use std::alloc::{AllocError, Global};
 
 // The items of a row, a space before each.
-fn row_text<T: Item>(alloc: Global, kind: ChargeKind, items: &[T]) -> Result<String, AllocError>
+fn row_text<T: PageItem>(alloc: Global, kind: ChargeKind, items: &[T]) -> Result<String, AllocError>
     ensures { IfOk result (λ s. string_bytes s ≡ spaced (T.form.shows kind) items.now) }
 {
     let mut row = String::new(alloc);
@@ -37,7 +37,7 @@ fn head_text(alloc: Global, kind: ChargeKind, header: Header) -> Result<String, 
 
 // The lines of the rule and the density, by their items, and of the bytes.
 fn rows_text(alloc: Global, rule: &str, density: &str, bytes: usize) -> Result<String, AllocError>
-    ensures { IfOk result (λ s. string_bytes s ≡ rows_text rule.now density.now bytes) }
+    ensures { IfOk result (λ s. string_bytes s ≡ items_text rule.now density.now bytes) }
 {
     format!(in alloc; "rule{rule}\ndensity{density}\nbytes {bytes}\n")
 }

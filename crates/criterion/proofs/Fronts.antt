@@ -4,7 +4,7 @@ use native.Mathlib.Nat.{pow-zero, div-div-eq-div-mul, div-eq_of_lt}
 use lib.Seq.{take-append-le}
 use Rattle.std.specs.Int.Digits.{number_from_digits_after}
 use Rattle.std.proofs.lemmas.List.{take_more_set, drop-set, drop_all, append_assoc, append-nil, map_push, get_or-map, length-map}
-use Rattle.fault.specs.Answers.{front}
+use Rattle.fault.specs.Answers.{at_front}
 use Rattle.charge.specs.Groups.{Group, Kind, minus, sum_over}
 use Rattle.charge.proofs.Sums.{left_comm, interchange, neg_is, sum_more, sum_same, sum_first}
 use Rattle.automaton.specs.Words.{code, word, repeated, table}
@@ -13,7 +13,7 @@ use Rattle.automaton.proofs.Codes.{length-word, power-some, code-word}
 use Rattle.automaton.proofs.Rings.{length-table, get_or-table, window-append}
 use Rattle.criterion.specs.Search.{J, crossings}
 
--- zeros at the front of a word leave its code
+-- zeros at the at_front of a word leave its code
 code_zeros : (q n : ℕ) (w : List ℕ) → code q (repeated 0 n ++ w) ≡ code q w
 code_zeros q zero w = refl
 code_zeros q (suc n) w =
@@ -84,7 +84,7 @@ module _ {C : Type 0} (K : Kind C) (d : Weights K.group.Carrier) where
       (λ j h. ap (λ c. get_or d.charges c G.zero) (head-code d.q r v j some below h))
       ∙ sym (sum_back G (front_label v) r))
 
-  -- the crossing of a word from that of its front: J(v) = J(v / q) - d(v) + d(0)
+  -- the crossing of a word from that of its at_front: J(v) = J(v / q) - d(v) + d(0)
   pub crossing-front : (v : ℕ) (x z a : K.group.Carrier) → 0 < d.q → v < d.q ^ (d.k - 1) →
       x ≡ J K 0 d (word d.q (d.k - 1) (v / d.q)) → z ≡ get_or d.charges 0 K.group.zero → a ≡ get_or d.charges v K.group.zero →
       K.group.add x (minus K.group z a) ≡ J K 0 d (word d.q (d.k - 1) v)
@@ -104,24 +104,24 @@ module _ {C : Type 0} (K : Kind C) (d : Weights K.group.Carrier) where
       ∙ moved G (sum_over G f r) (sum_over G (front_label (v / d.q)) r) z a sums
       ∙ sym (crossing-code v some below)
 
-  -- after j terms the sum is s, and the front is what is left of v
+  -- after j terms the sum is s, and the at_front is what is left of v
   abbrev pub Summed : ℕ → ℕ → ℕ → C → Type 0
-  Summed v j front s = (front ≡ v / d.q ^ j) × (K.means s ≡ sum_over K.group (front_label v) j)
+  Summed v j at_front s = (at_front ≡ v / d.q ^ j) × (K.means s ≡ sum_over K.group (front_label v) j)
 
-  pub summed_more : (v j front q : ℕ) (s x t : C) → Summed v j front s → q ≡ d.q → K.means x ≡ get_or d.charges front K.group.zero →
-      K.means t ≡ K.group.add (K.means s) (K.means x) → Summed v (j + 1) (front / q) t
-  summed_more v j front q s x t (fronts, sums) same-q at is = (
+  pub summed_more : (v j at_front q : ℕ) (s x t : C) → Summed v j at_front s → q ≡ d.q → K.means x ≡ get_or d.charges at_front K.group.zero →
+      K.means t ≡ K.group.add (K.means s) (K.means x) → Summed v (j + 1) (at_front / q) t
+  summed_more v j at_front q s x t (fronts, sums) same-q at is = (
     ap₂ ◌/◌ fronts same-q ∙ front_less d.q v j,
     is ∙ sum_more K.group (front_label v) j (K.means s) (K.means x) sums (at ∙ ap (λ c. get_or d.charges c K.group.zero) fronts),
   )
 
-  pub summed_all : (v j front : ℕ) (s : C) → Summed v j front s → j ≡ d.k - 1 → 0 < d.q → v < d.q ^ (d.k - 1) →
+  pub summed_all : (v j at_front : ℕ) (s : C) → Summed v j at_front s → j ≡ d.k - 1 → 0 < d.q → v < d.q ^ (d.k - 1) →
       K.group.neg (K.means s) ≡ J K 0 d (word d.q (d.k - 1) v)
-  summed_all v j front s (fronts, sums) all some below =
+  summed_all v j at_front s (fronts, sums) all some below =
       ap K.group.neg (sums ∙ ap (sum_over K.group (front_label v)) all) ∙ sym (crossing-code v some below)
 
 module _ {C X : Type 0} (means : C → X) (f : ℕ → X) where
-  -- one more charge at the front of a strip
+  -- one more charge at the at_front of a strip
   pub fill_more : (strip : List C) (n : ℕ) (x : C) → n < length strip → means x ≡ f n →
       map means (take n strip) ≡ table n f → map means (take (n + 1) (set strip n x)) ≡ table (n + 1) f
   fill_more strip n x fits is so_far =
@@ -139,7 +139,7 @@ module _ {C X : Type 0} (means : C → X) (f : ℕ → X) where
       ∙ ap (λ t. get_or t i (means x)) filled
       ∙ get_or-table n f (means x) i h
 
-  -- likewise at the front of a strip that is filled so far
+  -- likewise at the at_front of a strip that is filled so far
   pub filled_so-far : (strip : List C) (n i : ℕ) (x : C) → map means (take n strip) ≡ table n f → i < n → x ≡ get_or strip i x → means x ≡ f i
   filled_so-far strip n i x filled h is = filled_at (take n strip) n i x filled h (is ∙ sym (get_or-take n strip i x h))
 

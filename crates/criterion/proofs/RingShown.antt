@@ -2,7 +2,7 @@
 use Rattle.std.proofs.Common.{◌≡◌, ℕ, ◌+◌, ◌-◌, ◌*◌, ◌≤◌, Bool, cond, List, ◌++◌, length, take, drop, replicate, Ok, Err, Decides, Result, sym, ap, ◌∙◌, subst, ap₂, arith}
 use lib.Seq.{take-append-add}
 use Rattle.std.proofs.lemmas.List.{drop-replicate, take-replicate, take_rest}
-use Rattle.fault.specs.Answers.{and_then, front}
+use Rattle.fault.specs.Answers.{and_then, at_front}
 use Rattle.fault.specs.Refusals.{Refusal}
 use Rattle.charge.specs.Groups.{Kind}
 use Rattle.automaton.specs.Words.{Letters, word, repeated}
@@ -42,9 +42,9 @@ module _ {C : Type 0} (K : Kind C) (d : Weights K.group.Carrier) where
         (subst (λ x. Decides same (x ≡ K.means nothing)) sum_is tested))
         (K.decides (ring_sum K.group (weight K.group d) d.k ring) K.group.zero)
 
--- the word of code c at the front of 23 zeros, cut to the length of ring A
+-- the word of code c at the at_front of 23 zeros, cut to the length of ring A
 module _ {C : Type 0} (K : Kind C) (d : Weights K.group.Carrier) (labelled : Labelled d) (c q m : ℕ) (cells : List ℕ)
-    (same-q : q ≡ d.q) (same-m : m ≡ d.k) (written : cells ≡ front (word q m c) (replicate 23 0)) where
+    (same-q : q ≡ d.q) (same-m : m ≡ d.k) (written : cells ≡ at_front (word q m c) (replicate 23 0)) where
   abbrev cut : List ℕ
   cut = take (2 * m - 1) cells
 
@@ -79,6 +79,6 @@ module _ {C : Type 0} (K : Kind C) (d : Weights K.group.Carrier) (labelled : Lab
     shown-taken = ap (λ t. cond b t cut) (take_rest cut 1) ∙ shown-is
 
 -- what the copy of a ring says, said of the ring that it is
-pub copied : (ring is strip after : List ℕ) (n : ℕ) → ring ≡ is → n ≡ length ring → after ≡ front ring strip →
-    ◌≡◌ {A = Result ℕ Refusal} (Ok n) (Ok (length is)) × (after ≡ front is strip)
-copied ring is strip after n same answer all = (ap Ok (answer ∙ ap length same), all ∙ ap (λ t. front t strip) same)
+pub copied : (ring is strip after : List ℕ) (n : ℕ) → ring ≡ is → n ≡ length ring → after ≡ at_front ring strip →
+    ◌≡◌ {A = Result ℕ Refusal} (Ok n) (Ok (length is)) × (after ≡ at_front is strip)
+copied ring is strip after n same answer all = (ap Ok (answer ∙ ap length same), all ∙ ap (λ t. at_front t strip) same)

@@ -9,9 +9,9 @@ use Rattle.criterion.specs.Search.{crossings, failure, with_room}
 use Rattle.criterion.specs.declared.search.Failure.{Failure}
 
 -- the failing word's code and the length of the ring that shows it
-abbrev pub seen : Result (Option Failure) Fault → Result (Option (ℕ × ℕ)) Refusal
-seen (Ok found) = Ok (option_map (λ f. (f.word, f.len)) found)
-seen (Err f) = Err (refusal f)
+abbrev pub failure_seen : Result (Option Failure) Fault → Result (Option (ℕ × ℕ)) Refusal
+failure_seen (Ok found) = Ok (option_map (λ f. (f.word, f.len)) found)
+failure_seen (Err f) = Err (refusal f)
 
 -- the same of what is defined: the code, and the length of the ring
 abbrev pub with_length : Result (Option (ℕ × List ℕ)) Refusal → Result (Option (ℕ × ℕ)) Refusal

@@ -1,6 +1,6 @@
 pub mod Balance
 pub mod Search
-pub mod Strips
+pub mod ChargeStrips
 pub mod Answers
 pub mod Laws
 pub mod Labelled

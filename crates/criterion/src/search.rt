@@ -1,12 +1,12 @@
 // The search for the first word that fails, over lent strips.
 ghost use Rattle.std.specs.Prelude.{◌≡◌, ◌+◌, ◌-◌, ◌*◌, ◌/◌, ◌%◌, ◌^◌, ◌<◌, ◌≤◌, ◌↔◌, map, length, IsTrue, slice_index_or};
-ghost use Rattle.fault.specs.Answers.{plainly, front};
+ghost use Rattle.fault.specs.Answers.{plainly, at_front};
 ghost use Rattle.automaton.specs.Words.{word};
-ghost use Rattle.criterion.specs.Answers.{seen, with_length, examined, crossings_written, ring_written};
+ghost use Rattle.criterion.specs.Answers.{failure_seen, with_length, examined, crossings_written, ring_written};
 ghost use Rattle.criterion.specs.Search.{padding, failing, with_room};
 ghost use Rattle.criterion.specs.Search.{crossings as crossings_of};
 ghost use Rattle.criterion.specs.Search.{fails as fails_at};
-ghost use Rattle.criterion.specs.Strips.{FrontMeans};
+ghost use Rattle.criterion.specs.ChargeStrips.{FrontMeans};
 ghost use Rattle.criterion.specs.Laws.{LabelLaw};
 
 use crate::crossings::{fill_crossings, head_count};
@@ -101,13 +101,13 @@ pub fn examine<C: Charge, L: Label<C>>(
 ) -> Result<Option<Failure>, Fault>
     ensures answer { let d = L.labels C.kind label.now in
         let found = examined C.kind padding d (length crossings.old) (length ring.old) in
-        seen result ≡ with_length found }
+        failure_seen result ≡ with_length found }
     ensures crossings { let d = L.labels C.kind label.now in
         let all = crossings_written C.kind padding d (length crossings.old) (length ring.old) in
         FrontMeans C.kind all crossings.old crossings.new }
     ensures ring { let d = L.labels C.kind label.now in
         let found = examined C.kind padding d (length crossings.old) (length ring.old) in
-        ring.new ≡ front (ring_written found) ring.old }
+        ring.new ≡ at_front (ring_written found) ring.old }
     ensures law { LabelLaw C.kind padding (L.labels C.kind label.now) }
 {
     check_room(label, crossings.len(), ring.len())?;

@@ -1,6 +1,6 @@
 // The ring that shows that a word fails.
 ghost use Rattle.std.specs.Prelude.{◌≡◌, ◌-◌, ◌*◌, ◌≤◌, length, take, drop, if◌then◌else◌, Ok};
-ghost use Rattle.fault.specs.Answers.{plainly, front};
+ghost use Rattle.fault.specs.Answers.{plainly, at_front};
 ghost use Rattle.automaton.specs.Words.{Letters, word};
 ghost use Rattle.criterion.specs.Search.{padding, sums_to_zero, shown};
 
@@ -40,7 +40,7 @@ fn sums_to_zero<C: Charge, L: Label<C>>(label: &L, ring: &[u8]) -> Result<bool, 
 fn copy_ring(ring: &[u8], strip: &mut [u8]) -> usize
     requires { length ring.now ≤ length strip.old }
     ensures answer { result ≡ length ring.now }
-    ensures strip { strip.new ≡ front ring.now strip.old }
+    ensures strip { strip.new ≡ at_front ring.now strip.old }
 {
     strip[..ring.len()].copy_from_slice(ring);
     ring.len()
@@ -65,7 +65,7 @@ pub(crate) fn write_shown<C: Charge, L: Label<C>>(
     ensures answer { let d = L.labels C.kind label.now in
         plainly result ≡ Ok (length (shown C.kind padding d (word d.q d.k code))) }
     ensures strip { let d = L.labels C.kind label.now in
-        strip.new ≡ front (shown C.kind padding d (word d.q d.k code)) strip.old }
+        strip.new ≡ at_front (shown C.kind padding d (word d.q d.k code)) strip.old }
 {
     let m = label.m();
     let mut cells = [0u8; MOST_SHOWN];

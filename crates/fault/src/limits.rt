@@ -1,6 +1,6 @@
 // The limits that presets and rings are held to.
 ghost use Rattle.std.specs.Prelude.{◌≡◌};
-ghost use Rattle.fault.specs.Limits.{words};
+ghost use Rattle.fault.specs.Limits.{word_count};
 
 // An alphabet has 2 to 8 letters.
 pub const LEAST_LETTERS: u64 = 2;
@@ -20,7 +20,7 @@ pub const MOST_CELLS: usize = 4096;
 
 // How many words of m letters there are, where q is an alphabet size and the words are few.
 pub fn word_count(q: u64, m: u64) -> Option<usize>
-    ensures { result ≡ words q m }
+    ensures { result ≡ word_count q m }
 {
     if q < LEAST_LETTERS || q > MOST_LETTERS {
         return None;

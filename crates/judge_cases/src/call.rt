@@ -5,7 +5,7 @@ use crate::kind::Tried;
 use crate::numbers::Numbers;
 use crate::rule::RuleLine;
 use crate::show::{MARK, write_end, write_fault};
-use crate::strips::{Rooms, Strips};
+use crate::strips::{Rooms, JudgeStrips};
 use automaton::{Density, Rule, ShownLetters, next_ring, total};
 use bench::{Draft, compare};
 use charge::{Both, Channels, ChargeKind, Pitch, Voices};
@@ -15,20 +15,20 @@ use std::io::Write;
 
 // The calls, by their numbers on a line.
 #[derive(Clone, Copy)]
-enum Call {
+enum CaseCall {
     Judge,
     Compare,
     NextRing,
     Total,
 }
 
-impl From<usize> for Call {
-    fn from(number: usize) -> Call {
+impl From<usize> for CaseCall {
+    fn from(number: usize) -> CaseCall {
         match number {
-            0 => Call::Judge,
-            1 => Call::Compare,
-            2 => Call::NextRing,
-            _ => Call::Total,
+            0 => CaseCall::Judge,
+            1 => CaseCall::Compare,
+            2 => CaseCall::NextRing,
+            _ => CaseCall::Total,
         }
     }
 }
@@ -42,7 +42,7 @@ fn judge_parts<C: Tried, R: Rule + Drop, D: Density<C> + Drop, W: Write>(
     rooms: Rooms,
 ) -> Result<(), CaseError> {
     let m = rule.n().saturating_add(density.k()).saturating_sub(1);
-    let mut strips = Strips::<C>::new(alloc, rooms, rule.q(), m)?;
+    let mut strips = JudgeStrips::<C>::new(alloc, rooms, rule.q(), m)?;
     let draft = Draft::new(rule, density)?;
     let verdict = draft.judge(&mut strips.crossings, &mut strips.ring)?;
     strips.write_found(out, "holds", "breaks", verdict.found())?;
@@ -74,7 +74,7 @@ fn compare_case<C: Tried, W: Write>(
     let first = first.density().map_err(CaseError::First)?;
     let second = second.density().map_err(CaseError::Second)?;
     let m = first.k().max(second.k());
-    let mut strips = Strips::<C>::new(alloc, rooms, first.q(), m)?;
+    let mut strips = JudgeStrips::<C>::new(alloc, rooms, first.q(), m)?;
     let found = compare(&first, &second, &mut strips.crossings, &mut strips.ring)?.found();
     strips.write_found(out, "agree", "differ", found)?;
     Ok(())
@@ -118,21 +118,21 @@ fn case_as<C: Tried, W: Write>(
     alloc: Global,
     out: &mut W,
     numbers: &mut Numbers,
-    call: Call,
+    call: CaseCall,
     rooms: Rooms,
 ) -> Result<(), CaseError> {
     match call {
-        Call::Judge => judge_case::<C, W>(alloc, out, numbers, rooms),
-        Call::Compare => compare_case::<C, W>(alloc, out, numbers, rooms),
-        Call::NextRing => next_case(alloc, out, numbers, rooms),
-        Call::Total => total_case::<C, W>(alloc, out, numbers),
+        CaseCall::Judge => judge_case::<C, W>(alloc, out, numbers, rooms),
+        CaseCall::Compare => compare_case::<C, W>(alloc, out, numbers, rooms),
+        CaseCall::NextRing => next_case(alloc, out, numbers, rooms),
+        CaseCall::Total => total_case::<C, W>(alloc, out, numbers),
     }
 }
 
 // Makes the call of a line and prints its result, if it has one of its own. By cases on the kind, since what is done for
 // each is a generic function.
 fn case<W: Write>(alloc: Global, out: &mut W, numbers: &mut Numbers) -> Result<(), CaseError> {
-    let call = Call::from(numbers.count());
+    let call = CaseCall::from(numbers.count());
     let kind = ChargeKind::try_from(numbers.plain()).unwrap_or(ChargeKind::Both);
     let rooms = Rooms {
         crossings: numbers.count(),

@@ -44,7 +44,7 @@ impl<C: Charge> Density<C> for AnyDensity<'_, C> {
 
 // What a density is made of: the entries of a table, or the letters and the charge of a pattern.
 #[derive(Drop)]
-enum Parts<C> {
+enum DensityParts<C> {
     Table(Vec<C>),
     Pattern(Vec<u8>, C),
 }
@@ -54,7 +54,7 @@ enum Parts<C> {
 pub struct DensityLine<C> {
     q: u64,
     k: u64,
-    parts: Parts<C>,
+    parts: DensityParts<C>,
 }
 
 fn read_entry<C: Tried>(numbers: &mut Numbers) -> C {
@@ -78,21 +78,21 @@ impl<C: Tried> DensityLine<C> {
         let parts = match form {
             1 => {
                 let letters = numbers.letters(alloc)?;
-                Parts::Pattern(letters, read_entry::<C>(numbers))
+                DensityParts::Pattern(letters, read_entry::<C>(numbers))
             }
-            _ => Parts::Table(read_entries::<C>(alloc, numbers)?),
+            _ => DensityParts::Table(read_entries::<C>(alloc, numbers)?),
         };
         Ok(DensityLine { q, k, parts })
     }
 
     pub(crate) fn density(&self) -> Result<AnyDensity<'_, C>, Fault> {
         match &self.parts {
-            Parts::Table(entries) => {
+            DensityParts::Table(entries) => {
                 let mut density = TableDensity::zero();
                 density.fill(self.q, self.k, entries)?;
                 Ok(AnyDensity::Table(density))
             }
-            Parts::Pattern(letters, charge) => {
+            DensityParts::Pattern(letters, charge) => {
                 let mut density = PatternDensity::zero();
                 density.fill(self.q, self.k, letters, *charge)?;
                 Ok(AnyDensity::Pattern(density))

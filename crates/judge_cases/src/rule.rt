@@ -49,16 +49,16 @@ impl Rule for AnyRule<'_> {
 
 // Which of the two forms a line gives, by its number.
 #[derive(Clone, Copy)]
-enum Form {
+enum RuleForm {
     Table,
     Sum,
 }
 
-impl From<usize> for Form {
-    fn from(number: usize) -> Form {
+impl From<usize> for RuleForm {
+    fn from(number: usize) -> RuleForm {
         match number {
-            1 => Form::Sum,
-            _ => Form::Table,
+            1 => RuleForm::Sum,
+            _ => RuleForm::Table,
         }
     }
 }
@@ -66,7 +66,7 @@ impl From<usize> for Form {
 // The parts of a rule.
 #[derive(Drop)]
 pub struct RuleLine {
-    form: Form,
+    form: RuleForm,
     q: u64,
     n: u64,
     l: u64,
@@ -76,7 +76,7 @@ pub struct RuleLine {
 impl RuleLine {
     pub(crate) fn read(alloc: Global, numbers: &mut Numbers) -> Result<RuleLine, AllocError> {
         Ok(RuleLine {
-            form: Form::from(numbers.count()),
+            form: RuleForm::from(numbers.count()),
             q: numbers.plain(),
             n: numbers.plain(),
             l: numbers.plain(),
@@ -86,12 +86,12 @@ impl RuleLine {
 
     pub(crate) fn rule(&self) -> Result<AnyRule<'_>, Fault> {
         match self.form {
-            Form::Table => {
+            RuleForm::Table => {
                 let mut rule = TableRule::zero();
                 rule.fill(self.q, self.n, self.l, &self.letters)?;
                 Ok(AnyRule::Table(rule))
             }
-            Form::Sum => {
+            RuleForm::Sum => {
                 let mut rule = SumRule::zero();
                 rule.fill(self.q, self.n, self.l, &self.letters)?;
                 Ok(AnyRule::Sum(rule))

@@ -1,4 +1,4 @@
-// Strips as text.
+// JudgeStrips as text.
 use crate::kind::Tried;
 use fault::Fault;
 use std::io;

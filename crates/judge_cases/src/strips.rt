@@ -18,21 +18,21 @@ pub struct Rooms {
 
 // The strips, and the sizes of the label's words.
 #[derive(Drop)]
-pub struct Strips<C> {
+pub struct JudgeStrips<C> {
     pub crossings: Vec<C>,
     pub ring: Vec<u8>,
     q: usize,
     m: usize,
 }
 
-impl<C: Tried> Strips<C> {
+impl<C: Tried> JudgeStrips<C> {
     pub(crate) fn new(
         alloc: Global,
         rooms: Rooms,
         q: usize,
         m: usize,
-    ) -> Result<Strips<C>, AllocError> {
-        Ok(Strips {
+    ) -> Result<JudgeStrips<C>, AllocError> {
+        Ok(JudgeStrips {
             crossings: vec![in alloc; C::mark(); rooms.crossings]?,
             ring: vec![in alloc; MARK; rooms.ring]?,
             q,

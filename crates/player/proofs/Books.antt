@@ -5,7 +5,7 @@ use Rattle.charge.specs.Groups.{Group, Kind}
 use Rattle.automaton.specs.Words.{table}
 use Rattle.automaton.proofs.Rings.{length-table, get_or-table}
 use Rattle.automaton.proofs.Windows.{front_more}
-use Rattle.criterion.specs.Strips.{FrontMeans}
+use Rattle.criterion.specs.ChargeStrips.{FrontMeans}
 use Rattle.player.specs.Calls.{booked}
 
 -- after i sites the strip has i entries of what it will have at last, and the others as they were

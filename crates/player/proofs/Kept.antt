@@ -12,7 +12,7 @@ use Rattle.bench.specs.Benches.{bench_of}
 use Rattle.bench.specs.Verdicts.{bench_checked}
 use Rattle.criterion.specs.Search.{padding, J}
 use Rattle.bench.specs.Labels.{rule_label_list}
-use Rattle.player.specs.Calls.{Ring, booked, charges, crossing_at, opened, put, stepped}
+use Rattle.player.specs.Calls.{PlayerRing, booked, charges, crossing_at, opened, put, stepped}
 use Rattle.player.specs.Logs.{arc, ArcsAgree}
 use Rattle.player.proofs.Moves.{add_from-minus, balance, site_moves}
 
@@ -43,13 +43,13 @@ module _ (G : Group) where
 
 module _ {C : Type 0} (K : Kind C) (r : Local) (d : Weights K.group.Carrier) where
   -- site i has the charge of its opening, what crossed into it less what crossed out of it, and what it was touched by
-  abbrev pub SiteAgrees : Ring K.group.Carrier → ℕ → Type 0
+  abbrev pub SiteAgrees : PlayerRing K.group.Carrier → ℕ → Type 0
   SiteAgrees p i =
       let G = K.group in
       let at : List G.Carrier → ℕ → G.Carrier = round G.zero in
       charges K r d p.cells i ≡ G.add (G.add (at p.opening i) (minus G (at p.crossed i) (at p.crossed (suc i)))) (at p.touched i)
 
-  pub record Kept (p : Ring K.group.Carrier) : Type 0 where
+  pub record Kept (p : PlayerRing K.group.Carrier) : Type 0 where
     pub some : 1 ≤ length p.cells
     pub below : Letters r.q p.cells
     pub crossed_long : length p.crossed ≡ length p.cells
@@ -88,7 +88,7 @@ module _ {C : Type 0} (K : Kind C) (r : Local) (d : Weights K.group.Carrier) whe
             ∙ unit-right G (charges K r d c i));
       }
 
-  pub put_kept : (p : Ring K.group.Carrier) (i a : ℕ) → a < r.q → Kept p → Kept (put K r d i a p)
+  pub put_kept : (p : PlayerRing K.group.Carrier) (i a : ℕ) → a < r.q → Kept p → Kept (put K r d i a p)
   put_kept p i a small k =
       let G = K.group in
       let c : List ℕ = p.cells in
@@ -112,7 +112,7 @@ module _ {C : Type 0} (K : Kind C) (r : Local) (d : Weights K.group.Carrier) whe
       }
 
   pub stepped_kept : Lawful r → Weighed d → bench_checked (bench_of K r d) ≡ Ok tt → KeepsTotal K.group r d →
-      (p : Ring K.group.Carrier) → Kept p → Kept (stepped K r d p)
+      (p : PlayerRing K.group.Carrier) → Kept p → Kept (stepped K r d p)
   stepped_kept lawful weighed passed keeps p k =
       let G = K.group in
       let c : List ℕ = p.cells in
@@ -136,7 +136,7 @@ module _ {C : Type 0} (K : Kind C) (r : Local) (d : Weights K.group.Carrier) whe
       }
 
   -- along an arc the crossings between neighbours cancel
-  pub arcs_agree : (p : Ring K.group.Carrier) → Kept p → ArcsAgree K r d p
+  pub arcs_agree : (p : PlayerRing K.group.Carrier) → Kept p → ArcsAgree K r d p
   arcs_agree p k a n within =
       let G = K.group in
       let o : ℕ → G.Carrier = round G.zero p.opening in

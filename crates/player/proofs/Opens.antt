@@ -1,14 +1,14 @@
 -- What an opening leaves. Assumes nothing.
 use Rattle.std.proofs.Common.{◌≡◌, ℕ, List, [], length, drop, Ok, sym, ap, ◌∙◌, subst}
-use Rattle.fault.specs.Answers.{front}
+use Rattle.fault.specs.Answers.{at_front}
 use Rattle.charge.specs.Groups.{Kind}
 use Rattle.automaton.specs.Words.{table}
 use Rattle.automaton.specs.Meanings.{Local, Weights}
 use Rattle.automaton.proofs.Rings.{length-table}
-use Rattle.criterion.specs.Strips.{FrontMeans}
-use Rattle.player.specs.Calls.{charges, checked, worked, Does}
-use Rattle.player.specs.Calls.Call.{opens}
-use Rattle.player.specs.Calls.Answer.{done}
+use Rattle.criterion.specs.ChargeStrips.{FrontMeans}
+use Rattle.player.specs.Calls.{charges, call_checked, worked, Does}
+use Rattle.player.specs.Calls.PlayerCall.{opens}
+use Rattle.player.specs.Calls.PlayerAnswer.{done}
 use Rattle.player.specs.Answers.{strips}
 use Rattle.player.proofs.Books.{front-means, front-past}
 use Rattle.player.proofs.Works.{does_work}
@@ -16,7 +16,7 @@ use Rattle.player.proofs.Works.{does_work}
 -- a ring `shown` that is the ring that open is given
 module _ {C : Type 0} (K : Kind C) (r : Local) (d : Weights K.group.Carrier) (ring shown cells cells' : List ℕ) (opening crossed touched opening' crossed' touched' : List C) where
   -- what an opening that has passed leaves
-  pub opens_does : checked r.q (length ring) (opens ring) (strips K cells [] opening crossed touched) ≡ Ok tt → shown ≡ ring → cells' ≡ front shown cells →
+  pub opens_does : call_checked r.q (length ring) (opens ring) (strips K cells [] opening crossed touched) ≡ Ok tt → shown ≡ ring → cells' ≡ at_front shown cells →
       FrontMeans K (table (length shown) (charges K r d shown)) opening opening' →
       FrontMeans K (table (length shown) (λ _. K.group.zero)) crossed crossed' →
       FrontMeans K (table (length shown) (λ _. K.group.zero)) touched touched' →

@@ -12,8 +12,8 @@ use Rattle.fault.specs.Refusals.{Refusal, refused_at}
 use Rattle.charge.specs.Groups.{Kind}
 use Rattle.automaton.specs.Words.{Letters}
 use Rattle.automaton.proofs.Passes.{ring-letters}
-use Rattle.player.specs.Calls.{Call, Strips, tests, letters, checked}
-use Rattle.player.specs.Calls.Call.{touches, steps}
+use Rattle.player.specs.Calls.{PlayerCall, PlayerStrips, tests, call_letters, call_checked}
+use Rattle.player.specs.Calls.PlayerCall.{touches, steps}
 use Rattle.player.specs.Answers.{strips}
 
 -- the second of two tests, where both have passed
@@ -21,11 +21,11 @@ second : {X Y : Type 0} (x : Result X Refusal) (y : Result Y Refusal) (t : Y) �
 second (Ok v) y t e = e
 second (Err f) y t e = grind (arith, nat_tests)
 
-pub letters_passed : {A : Type 0} (q L : ℕ) (call : Call) (s : Strips A) → checked q L call s ≡ Ok tt → Letters q (letters L call s)
+pub letters_passed : {A : Type 0} (q L : ℕ) (call : PlayerCall) (s : PlayerStrips A) → call_checked q L call s ≡ Ok tt → Letters q (call_letters L call s)
 letters_passed q L call s e =
-    ring-letters q (letters L call s) (second (tested (tests L call s)) (each_fits (λ a. ltb a q) BadLetter 0 (letters L call s)) tt e)
+    ring-letters q (call_letters L call s) (second (tested (tests L call s)) (each_fits (λ a. ltb a q) BadLetter 0 (call_letters L call s)) tt e)
 
--- of a word of letters below q its first letters are, and its last
+-- of a word of call_letters below q its first call_letters are, and its last
 pub front_below : (q : ℕ) (v w : List ℕ) → Letters q (v ++ w) → Letters q v
 front_below q v w below i h = subst (λ x. x < q) (get_or_append_left v w 0 i h) (below i (omega (arith, length-append v w)))
 
@@ -33,10 +33,10 @@ pub last_below : (q : ℕ) (w : List ℕ) (a : ℕ) → Letters q (w ++ (a ∷ [
 last_below q w a below = subst (λ x. x < q) (get_or-append-add w (a ∷ []) 0 0) (below (length w + 0) (omega (arith, length-append w (a ∷ []))))
 
 -- the strips are long enough, and the position is on the ring
-pub touches_fit : {A : Type 0} (q L i a : ℕ) (s : Strips A) → checked q L (touches i a) s ≡ Ok tt → (L ≤ length s.cells) × (L ≤ length s.touched) × (i < L)
+pub touches_fit : {A : Type 0} (q L i a : ℕ) (s : PlayerStrips A) → call_checked q L (touches i a) s ≡ Ok tt → (L ≤ length s.cells) × (L ≤ length s.touched) × (i < L)
 touches_fit q L i a s e = grind (arith, nat_tests)
 
-pub steps_fit : {A : Type 0} (q L : ℕ) (s : Strips A) → checked q L steps s ≡ Ok tt → (L ≤ length s.cells) × (L ≤ length s.spare) × (L ≤ length s.crossed)
+pub steps_fit : {A : Type 0} (q L : ℕ) (s : PlayerStrips A) → call_checked q L steps s ≡ Ok tt → (L ≤ length s.cells) × (L ≤ length s.spare) × (L ≤ length s.crossed)
 steps_fit q L s e = grind (arith, nat_tests)
 
 -- one letter more
@@ -51,18 +51,18 @@ fits-push fits stop (x ∷ xs) a i =
       | false ↦ refl
     ]
 
--- the letters of a touch, where its other tests have passed
+-- the call_letters of a touch, where its other tests have passed
 module _ {C : Type 0} (K : Kind C) (q L i a : ℕ) (cells : List ℕ) (touched : List C) (room : L ≤ min (length cells) (length touched)) (on : i < L) where
-  abbrev handed : Strips K.group.Carrier
+  abbrev handed : PlayerStrips K.group.Carrier
   handed = strips K cells [] [] [] touched
 
-  touch-tests : checked q L (touches i a) handed ≡ each_fits (λ x. ltb x q) BadLetter 0 (take L cells ++ (a ∷ []))
+  touch-tests : call_checked q L (touches i a) handed ≡ each_fits (λ x. ltb x q) BadLetter 0 (take L cells ++ (a ∷ []))
   touch-tests =
       let size : length (map K.means touched) ≡ length touched = length-map touched K.means in
       grind (arith, nat_tests, size)
 
   pub touch-letters : (found : Result (Unit {0}) Refusal) → found ≡ each_fits (λ x. ltb x q) BadLetter 0 (take L cells) →
-      and_then found (λ _. cond (ltb a q) (Ok tt) (Err (refused_at BadLetter L))) ≡ checked q L (touches i a) handed
+      and_then found (λ _. cond (ltb a q) (Ok tt) (Err (refused_at BadLetter L))) ≡ call_checked q L (touches i a) handed
   touch-letters found e =
       let size : 0 + length (take L cells) ≡ L = omega (arith, length-take-le L cells (omega (arith, room))) in
       ap (λ x. and_then x (λ _. cond (ltb a q) (Ok tt) (Err (refused_at BadLetter L)))) e

@@ -3,12 +3,12 @@ use Rattle.std.proofs.Common.{◌≡◌, ℕ, ◌+◌, ◌<◌, List, [], ◌∷
 use Rattle.std.proofs.lemmas.List.{map_push, take_more, take_more_set, drop-set-lt, drop-drop}
 use Rattle.charge.specs.Groups.{Kind}
 use Rattle.automaton.specs.Meanings.{Local, Weights}
-use Rattle.player.specs.Calls.{Call, Strips}
+use Rattle.player.specs.Calls.{PlayerCall, PlayerStrips}
 use Rattle.player.specs.Scripts.{played_more, played}
 use Rattle.player.proofs.Scripts.{played_push}
 
 -- one call more of a script
-pub script_more : {C X : Type 0} (K : Kind C) (r : Local) (d : Weights K.group.Carrier) (s : Strips K.group.Carrier) (asked : X → Call) (script : List X) (i : ℕ) (none : X) →
+pub script_more : {C X : Type 0} (K : Kind C) (r : Local) (d : Weights K.group.Carrier) (s : PlayerStrips K.group.Carrier) (asked : X → PlayerCall) (script : List X) (i : ℕ) (none : X) →
     i < length script → played K r d s (map asked (take (i + 1) script)) ≡ played_more K r d (played K r d s (map asked (take i script))) (asked (get_or script i none))
 script_more K r d s asked script i none h =
     ap (λ xs. played K r d s (map asked xs)) (take_more script i none h)

@@ -8,7 +8,7 @@ use Rattle.fault.specs.Limits.{most_cells, within}
 use Rattle.fault.specs.Refusals.{Refusal, refused_at}
 use Rattle.charge.specs.Groups.{Kind}
 use Rattle.automaton.specs.Words.{Letters}
-use Rattle.player.specs.Calls.Call.{opens, touches, steps, reads, closes}
+use Rattle.player.specs.Calls.PlayerCall.{opens, touches, steps, reads, closes}
 use Rattle.player.specs.Laws.{BadSize, Short, OffRing, FirstOffender, LowestOf, RefusalsFit}
 
 -- a test is passed exactly where B does not hold

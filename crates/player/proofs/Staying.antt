@@ -5,16 +5,16 @@ use Rattle.std.proofs.lemmas.List.{drop-drop}
 use Rattle.fault.specs.declared.Fault.{Fault}
 use Rattle.charge.specs.Groups.{Kind}
 use Rattle.automaton.specs.Meanings.{Local, Weights}
-use Rattle.player.specs.declared.call.Answer.{Answer as Answered}
+use Rattle.player.specs.declared.call.Answer.{Answer}
 use Rattle.player.specs.declared.call.Answer.TheVariants.{Done, Reading as Read_as, Refused as Refused_by}
 use Rattle.player.specs.declared.meters.Reading.{Reading}
-use Rattle.player.specs.Answers.{answered, done_answer, read_answer, Stays}
-use Rattle.player.specs.Calls.{Call, Answer, Strips, size}
-use Rattle.player.specs.Calls.Call.{opens, touches, steps, reads, closes}
-use Rattle.player.specs.Calls.Answer.{done, reading, refused}
+use Rattle.player.specs.Answers.{answer_meant, done_or_refused, read_or_refused, Stays}
+use Rattle.player.specs.Calls.{PlayerCall, PlayerAnswer, PlayerStrips, size}
+use Rattle.player.specs.Calls.PlayerCall.{opens, touches, steps, reads, closes}
+use Rattle.player.specs.Calls.PlayerAnswer.{done, reading, refused}
 use Rattle.player.specs.Logs.{Log, allowed, accepted, standing, ring_opened, longest_opened}
 use Rattle.player.specs.Logs.Log.{◌then◌}
-use Rattle.player.specs.Obeying.{Written, front_of_all, written_by, written_after, StaysPast}
+use Rattle.player.specs.Obeying.{ChargesWritten, front_of_all, written_by, written_after, StaysPast}
 use Rattle.player.specs.Scripts.{Played, got, said_to, logged, still_open, cells_after, played_more, played}
 use Rattle.player.proofs.Scripts.{cells_stand}
 
@@ -27,7 +27,7 @@ past-later n m old new less e =
     split = omega arith
 
 -- one call more, which writes no charge past the first m
-pub stays-more : {C : Type 0} (n m : ℕ) (w : Written) (old mid new : Strips C) → n ≤ m → (w.opening ≤ m) × (w.crossed ≤ m) × (w.touched ≤ m) →
+pub stays-more : {C : Type 0} (n m : ℕ) (w : ChargesWritten) (old mid new : PlayerStrips C) → n ≤ m → (w.opening ≤ m) × (w.crossed ≤ m) × (w.touched ≤ m) →
     StaysPast (front_of_all n) old mid → StaysPast w mid new → StaysPast (front_of_all m) old new
 stays-more n m w old mid new less within first more = (
   past-later w.opening m mid.opening new.opening within.0 more.0 ∙ past-later n m old.opening mid.opening less first.0,
@@ -35,11 +35,11 @@ stays-more n m w old mid new less within first more = (
   past-later w.touched m mid.touched new.touched within.2 more.2 ∙ past-later n m old.touched mid.touched less first.2,
 )
 
-abbrev Within : Written → ℕ → Type 0
+abbrev Within : ChargesWritten → ℕ → Type 0
 Within w m = (w.opening ≤ m) × (w.crossed ≤ m) × (w.touched ≤ m)
 
 -- an accepted call writes no more charges than the longest ring has, and leaves no longer ring open
-call-within : (call : Call) (L n : ℕ) → L ≤ n → Within (written_by call L) (max n (ring_opened call)) × (still_open call (size call L) ≤ max n (ring_opened call))
+call-within : (call : PlayerCall) (L n : ℕ) → L ≤ n → Within (written_by call L) (max n (ring_opened call)) × (still_open call (size call L) ≤ max n (ring_opened call))
 call-within (opens ring) L n h = ((omega arith, omega arith, omega arith), omega arith)
 call-within (touches i a) L n h = ((omega arith, omega arith, omega arith), omega arith)
 call-within steps L n h = ((omega arith, omega arith, omega arith), omega arith)
@@ -51,8 +51,8 @@ nothing-within m = (omega arith, omega arith, omega arith)
 
 module _ {C : Type 0} (K : Kind C) (r : Local) (d : Weights K.group.Carrier) where
   -- the answer that a call was given, and the log with it
-  written-within : (log : Log K.group.Carrier) (call : Call) (s : Strips K.group.Carrier) (L : ℕ) → L ≤ longest_opened log → (answer : Option (Answered C)) →
-      option_map (answered K) answer ≡ said_to K r d L call s → Within (written_after answer call L) (longest_opened (logged K r d L call s log))
+  written-within : (log : Log K.group.Carrier) (call : PlayerCall) (s : PlayerStrips K.group.Carrier) (L : ℕ) → L ≤ longest_opened log → (answer : Option (Answer C)) →
+      option_map (answer_meant K) answer ≡ said_to K r d L call s → Within (written_after answer call L) (longest_opened (logged K r d L call s log))
   written-within log call s L h None e = nothing-within _
   written-within log call s L h (Some (Refused_by f)) e = nothing-within _
   written-within log call s L h (Some Done) e = go (allowed call L) e
@@ -65,15 +65,15 @@ module _ {C : Type 0} (K : Kind C) (r : Local) (d : Weights K.group.Carrier) whe
       go false e = absurd (grind arith)
   written-within log call s L h (Some (Read_as m)) e = go (allowed call L) e
     where
-      go : (b : Bool) → Some (answered K (Read_as m)) ≡ cond b (Some (got K r d L call s).said) None →
+      go : (b : Bool) → Some (answer_meant K (Read_as m)) ≡ cond b (Some (got K r d L call s).said) None →
           Within (written_by call L) (longest_opened (cond b (log then record { call = call; handed = s; got = got K r d L call s }) log))
       go true e =
-          subst (λ a. Within (written_by call L) (max (longest_opened log) (accepted a (ring_opened call) 0))) (let same : answered K (Read_as m) ≡ (got K r d L call s).said = grind arith in same)
+          subst (λ a. Within (written_by call L) (max (longest_opened log) (accepted a (ring_opened call) 0))) (let same : answer_meant K (Read_as m) ≡ (got K r d L call s).said = grind arith in same)
           (call-within call L (longest_opened log) h).0
       go false e = absurd (grind arith)
 
   -- a log with one call more has no shorter ring opened
-  longer : (log : Log K.group.Carrier) (call : Call) (s : Strips K.group.Carrier) (L : ℕ) → longest_opened log ≤ longest_opened (logged K r d L call s log)
+  longer : (log : Log K.group.Carrier) (call : PlayerCall) (s : PlayerStrips K.group.Carrier) (L : ℕ) → longest_opened log ≤ longest_opened (logged K r d L call s log)
   longer log call s L = go (allowed call L)
     where
       go : (b : Bool) → longest_opened log ≤ longest_opened (cond b (log then record { call = call; handed = s; got = got K r d L call s }) log)
@@ -81,12 +81,12 @@ module _ {C : Type 0} (K : Kind C) (r : Local) (d : Weights K.group.Carrier) whe
       go false = omega arith
 
   -- the open ring is no longer than the longest that was opened
-  accepted-within : (said : Answer K.group.Carrier) (call : Call) (L n : ℕ) → L ≤ n → accepted said (still_open call (size call L)) L ≤ max n (accepted said (ring_opened call) 0)
+  accepted-within : (said : PlayerAnswer K.group.Carrier) (call : PlayerCall) (L n : ℕ) → L ≤ n → accepted said (still_open call (size call L)) L ≤ max n (accepted said (ring_opened call) 0)
   accepted-within done call L n h = (call-within call L n h).1
   accepted-within (reading o c t m) call L n h = (call-within call L n h).1
   accepted-within (refused f) call L n h = omega arith
 
-  cells-within : (log : Log K.group.Carrier) (call : Call) (s : Strips K.group.Carrier) (L : ℕ) → L ≤ longest_opened log →
+  cells-within : (log : Log K.group.Carrier) (call : PlayerCall) (s : PlayerStrips K.group.Carrier) (L : ℕ) → L ≤ longest_opened log →
       cells_after K r d L call s ≤ longest_opened (logged K r d L call s log)
   cells-within log call s L h = go (allowed call L)
     where
@@ -97,14 +97,14 @@ module _ {C : Type 0} (K : Kind C) (r : Local) (d : Weights K.group.Carrier) whe
 
   -- What stays while a script is played: the charges past the longest ring that was opened, which is no shorter than the
   -- ring that is open.
-  pub record Stayed (p : Played K.group.Carrier) (old now : Strips C) : Type 0 where
+  pub record Stayed (p : Played K.group.Carrier) (old now : PlayerStrips C) : Type 0 where
     pub past : StaysPast (front_of_all (longest_opened p.log)) old now
     pub standing_within : length (standing p.log).cells ≤ longest_opened p.log
 
   -- one call more
-  pub stayed_more : (s : Strips K.group.Carrier) (script : List Call) (call : Call) (answer : Option (Answered C)) (old mid new : Strips C) →
+  pub stayed_more : (s : PlayerStrips K.group.Carrier) (script : List PlayerCall) (call : PlayerCall) (answer : Option (Answer C)) (old mid new : PlayerStrips C) →
       let p = played K r d s script in
-      Stayed p old mid → option_map (answered K) answer ≡ said_to K r d (length (standing p.log).cells) call p.strips →
+      Stayed p old mid → option_map (answer_meant K) answer ≡ said_to K r d (length (standing p.log).cells) call p.strips →
       StaysPast (written_after answer call (length (standing p.log).cells)) mid new → Stayed (played_more K r d p call) old new
   stayed_more s script call answer old mid new stayed said more =
       let p = played K r d s script in
@@ -117,17 +117,17 @@ module _ {C : Type 0} (K : Kind C) (r : Local) (d : Weights K.group.Carrier) whe
 
 -- what an accepted or refused call leaves of one strip of charges
 module _ {C : Type 0} where
-  pub touch-stays : (told : Result (Unit {0}) Fault) (L i a : ℕ) (old new : Strips C) → new.opening ≡ old.opening → new.crossed ≡ old.crossed →
-      Stays told L old.touched new.touched → StaysPast (written_after {C = C} (Some (done_answer told)) (touches i a) L) old new
+  pub touch-stays : (told : Result (Unit {0}) Fault) (L i a : ℕ) (old new : PlayerStrips C) → new.opening ≡ old.opening → new.crossed ≡ old.crossed →
+      Stays told L old.touched new.touched → StaysPast (written_after {C = C} (Some (done_or_refused told)) (touches i a) L) old new
   touch-stays (Ok t) L i a old new o c s = (o, c, s)
   touch-stays (Err f) L i a old new o c s = (o, c, s)
 
-  pub step-stays : (told : Result (Unit {0}) Fault) (L : ℕ) (old new : Strips C) → new.opening ≡ old.opening → new.touched ≡ old.touched →
-      Stays told L old.crossed new.crossed → StaysPast (written_after {C = C} (Some (done_answer told)) steps L) old new
+  pub step-stays : (told : Result (Unit {0}) Fault) (L : ℕ) (old new : PlayerStrips C) → new.opening ≡ old.opening → new.touched ≡ old.touched →
+      Stays told L old.crossed new.crossed → StaysPast (written_after {C = C} (Some (done_or_refused told)) steps L) old new
   step-stays (Ok t) L old new o u s = (o, s, u)
   step-stays (Err f) L old new o u s = (o, s, u)
 
-  pub read-stays : (told : Result (Reading C) Fault) (L i : ℕ) (old new : Strips C) → (new.opening ≡ old.opening) × (new.crossed ≡ old.crossed) × (new.touched ≡ old.touched) →
-      StaysPast (written_after (Some (read_answer told)) (reads i) L) old new
+  pub read-stays : (told : Result (Reading C) Fault) (L i : ℕ) (old new : PlayerStrips C) → (new.opening ≡ old.opening) × (new.crossed ≡ old.crossed) × (new.touched ≡ old.touched) →
+      StaysPast (written_after (Some (read_or_refused told)) (reads i) L) old new
   read-stays (Ok m) L i old new same = same
   read-stays (Err f) L i old new same = same

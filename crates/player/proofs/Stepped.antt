@@ -3,13 +3,13 @@ use Rattle.std.proofs.Common.{◌≡◌, ℕ, ◌≤◌, List, [], ◌++◌, len
 use Rattle.std.proofs.lemmas.List.{take-append-drop, length-take-le}
 use Rattle.std.proofs.lemmas.Bool.Decides.{nat_tests}
 use Rattle.fault.specs.declared.Fault.{Fault}
-use Rattle.fault.specs.Answers.{plainly, front}
+use Rattle.fault.specs.Answers.{plainly, at_front}
 use Rattle.charge.specs.Groups.{Kind}
 use Rattle.automaton.specs.Meanings.{Local, Weights, next}
 use Rattle.automaton.proofs.Steps.{length-next}
-use Rattle.criterion.specs.Strips.{FrontMeans}
-use Rattle.player.specs.Calls.{crossing_at, booked, checked, Does}
-use Rattle.player.specs.Calls.Call.{steps}
+use Rattle.criterion.specs.ChargeStrips.{FrontMeans}
+use Rattle.player.specs.Calls.{crossing_at, booked, call_checked, Does}
+use Rattle.player.specs.Calls.PlayerCall.{steps}
 use Rattle.player.specs.Answers.{strips, done_said, Stays}
 use Rattle.player.proofs.Books.{front-means, front-past}
 use Rattle.player.proofs.Kept.{length-booked}
@@ -21,8 +21,8 @@ passed_is : (x : Result (Unit {0}) Fault) → plainly x ≡ Ok tt → Ok tt ≡ 
 passed_is (Ok t) e = refl
 passed_is (Err f) e = grind (arith, nat_tests)
 
--- as many at the front of a strip
-front-count : {X : Type 0} (xs : List X) (n : ℕ) (old new : List X) → length xs ≡ n → new ≡ front xs old → xs ++ drop n old ≡ new
+-- as many at the at_front of a strip
+front-count : {X : Type 0} (xs : List X) (n : ℕ) (old new : List X) → length xs ≡ n → new ≡ at_front xs old → xs ++ drop n old ≡ new
 front-count xs n old new size e = ap (λ k. xs ++ drop k old) (sym size) ∙ sym e
 
 module _ {C : Type 0} (K : Kind C) (r : Local) (d : Weights K.group.Carrier) (L : ℕ) (cells spare cells' spare' : List ℕ) (crossed crossed' : List C) where
@@ -30,7 +30,7 @@ module _ {C : Type 0} (K : Kind C) (r : Local) (d : Weights K.group.Carrier) (L 
   abbrev flows : List K.group.Carrier
   flows = booked K.group (crossing_at K r d (take L cells)) (take L (map K.means crossed))
 
-  module _ (ready : checked r.q L steps (strips K cells spare [] crossed []) ≡ Ok tt) (fronts : FrontMeans K flows crossed crossed')
+  module _ (ready : call_checked r.q L steps (strips K cells spare [] crossed []) ≡ Ok tt) (fronts : FrontMeans K flows crossed crossed')
       (said : Result (Unit {0}) Fault) (passed : plainly said ≡ Ok tt) where
     fit : (L ≤ length cells) × (L ≤ length spare) × (L ≤ length (map K.means crossed))
     fit = steps_fit r.q L (strips K cells spare [] crossed []) ready
@@ -38,7 +38,7 @@ module _ {C : Type 0} (K : Kind C) (r : Local) (d : Weights K.group.Carrier) (L 
     size : length flows ≡ L
     size = length-booked K.group (crossing_at K r d (take L cells)) (take L (map K.means crossed)) ∙ length-take-le L (map K.means crossed) fit.2
 
-    pub steps_does : cells' ≡ front (next r (take L cells)) cells → spare' ≡ front (take L cells) spare →
+    pub steps_does : cells' ≡ at_front (next r (take L cells)) cells → spare' ≡ at_front (take L cells) spare →
         Does K r d L steps (strips K cells spare [] crossed []) (done_said K said) (strips K cells' spare' [] crossed' [])
     steps_does c s =
         let kept : length (take L cells) ≡ L = length-take-le L cells fit.0 in

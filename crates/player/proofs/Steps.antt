@@ -4,8 +4,8 @@ use Rattle.charge.specs.Groups.{Kind}
 use Rattle.automaton.specs.Meanings.{next}
 use Rattle.automaton.proofs.Steps.{length-next}
 use Rattle.player.specs.Calls.{worked, passed_or, outcome}
-use Rattle.player.specs.Calls.Call.{steps}
-use Rattle.player.specs.Calls.Answer.{refused}
+use Rattle.player.specs.Calls.PlayerCall.{steps}
+use Rattle.player.specs.Calls.PlayerAnswer.{refused}
 use Rattle.player.proofs.Passed.{steps_fit}
 use Rattle.player.specs.Laws.{StepsOn}
 

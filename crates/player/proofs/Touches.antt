@@ -5,10 +5,10 @@ use Rattle.std.proofs.Math.Seq.{take-set-lt}
 use Rattle.charge.specs.Groups.{Group, Kind, minus}
 use Rattle.automaton.specs.Meanings.{Local, Weights}
 use Rattle.automaton.proofs.Rings.{get_or-table}
-use Rattle.criterion.specs.Strips.{FrontMeans}
-use Rattle.player.specs.Calls.{charges, booked, checked, Does}
-use Rattle.player.specs.Calls.Call.{touches}
-use Rattle.player.specs.Calls.Answer.{done}
+use Rattle.criterion.specs.ChargeStrips.{FrontMeans}
+use Rattle.player.specs.Calls.{charges, booked, call_checked, Does}
+use Rattle.player.specs.Calls.PlayerCall.{touches}
+use Rattle.player.specs.Calls.PlayerAnswer.{done}
 use Rattle.player.specs.Answers.{strips}
 use Rattle.player.proofs.Books.{front-means, front-past}
 use Rattle.player.proofs.Kept.{length-booked}
@@ -41,7 +41,7 @@ module _ {C : Type 0} (K : Kind C) (r : Local) (d : Weights K.group.Carrier) (L 
   gains =
       booked K.group (λ j. minus K.group (charges K r d (set (take L cells) i a) j) (charges K r d (take L cells) j)) (take L (map K.means touched))
 
-  module _ (ready : checked r.q L (touches i a) (strips K cells [] [] [] touched) ≡ Ok tt) (fronts : FrontMeans K gains touched touched') where
+  module _ (ready : call_checked r.q L (touches i a) (strips K cells [] [] [] touched) ≡ Ok tt) (fronts : FrontMeans K gains touched touched') where
     size : length gains ≡ L
     size =
         length-booked K.group (λ j. minus K.group (charges K r d (set (take L cells) i a) j) (charges K r d (take L cells) j)) (take L (map K.means touched))

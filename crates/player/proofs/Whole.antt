@@ -3,7 +3,7 @@ use Rattle.std.proofs.Common.{◌≡◌, ℕ, ◌+◌, ◌-◌, ◌*◌, ◌^◌
 use Rattle.std.specs.Option.{option_map}
 use Rattle.std.proofs.lemmas.List.{get_or_append_left}
 use Rattle.fault.specs.declared.Stop.TheVariants.{ShortStrip}
-use Rattle.fault.specs.Answers.{and_then, front}
+use Rattle.fault.specs.Answers.{and_then, at_front}
 use Rattle.fault.specs.Checks.{tested}
 use Rattle.fault.specs.Refusals.{Refusal, refused_at}
 use Rattle.charge.specs.Groups.{Group, Kind, minus}
@@ -14,7 +14,7 @@ use Rattle.automaton.proofs.Rings.{length-table, get_or-table, letters-take, let
 use Rattle.criterion.specs.Answers.{ring_written, unless_refused}
 use Rattle.criterion.specs.Balance.{OnlyTable}
 use Rattle.criterion.specs.Search.{padding, J, crossings}
-use Rattle.criterion.specs.Strips.{FrontMeans}
+use Rattle.criterion.specs.ChargeStrips.{FrontMeans}
 use Rattle.bench.specs.Labels.{rule_label, rule_label_list}
 use Rattle.bench.specs.declared.state.Refused.{Refused}
 use Rattle.bench.specs.declared.state.Verdict.{Verdict}
@@ -23,7 +23,7 @@ use Rattle.bench.specs.Benches.{Bench, bench_of, total_before, total_after, cros
 use Rattle.bench.specs.Promises.{Judges}
 use Rattle.bench.specs.Laws.{Apart, VerdictRight}
 use Rattle.bench.specs.Verdicts.{Judgement, Found, Lent, Leaves, judge_found, bench_checked, broken, verdict_of}
-use Rattle.player.specs.Calls.{Call, Strips}
+use Rattle.player.specs.Calls.{PlayerCall, PlayerStrips}
 use Rattle.player.specs.Scripts.{played}
 use Rattle.player.specs.Whole.{JudgedFor, with_answers, VerdictTrue, CrossingsTrue, LogTrue}
 use Rattle.player.proofs.Books.{front-means}
@@ -69,7 +69,7 @@ module _ {C : Type 0} (K : Kind C) (r : Local) (d : Weights K.group.Carrier) (la
   abbrev verdict : Result (Option (ℕ × List ℕ)) Refusal → Result (Judgement K.group.Carrier) Refusal
   verdict = verdict_on (total K.group d) (λ c. total K.group d (next r c))
 
-  pub verdict_true : (found : Result (Option (ℕ × List ℕ)) Refusal) (ring old : List ℕ) → VerdictRight (bench_of K r d) found → ring ≡ front (ring_written found) old →
+  pub verdict_true : (found : Result (Option (ℕ × List ℕ)) Refusal) (ring old : List ℕ) → VerdictRight (bench_of K r d) found → ring ≡ at_front (ring_written found) old →
       VerdictTrue (bench_of K r d) (verdict found) ring
   verdict_true (Ok None) ring old right e = right.0
   verdict_true (Ok (Some f)) ring old right e =
@@ -104,7 +104,7 @@ module _ {C : Type 0} (K : Kind C) (r : Local) (d : Weights K.group.Carrier) (la
   crossings_true (Ok (Some f)) old new right fronts = tt
   crossings_true (Err f) old new right fronts = tt
 
-  pub log_true : Weighed d → bench_checked (bench_of K r d) ≡ Ok tt → (found : Result (Option (ℕ × List ℕ)) Refusal) (script : List Call) (handed : Strips K.group.Carrier) →
+  pub log_true : Weighed d → bench_checked (bench_of K r d) ≡ Ok tt → (found : Result (Option (ℕ × List ℕ)) Refusal) (script : List PlayerCall) (handed : PlayerStrips K.group.Carrier) →
       VerdictRight (bench_of K r d) found → LogTrue (bench_of K r d) (verdict found) script handed
   log_true weighed passed (Ok None) script handed right =
       let whole = scripts_logged K r d handed script in

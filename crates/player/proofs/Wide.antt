@@ -4,9 +4,9 @@ use Rattle.std.proofs.lemmas.List.{take-append-drop}
 use Rattle.fault.specs.Refusals.{Refusal}
 use Rattle.charge.specs.Groups.{Kind}
 use Rattle.automaton.specs.Meanings.{Local, Weights}
-use Rattle.player.specs.Calls.{Answer, Strips, checked, worked, passed_or, outcome, Does}
-use Rattle.player.specs.Calls.Call.{touches, steps}
-use Rattle.player.specs.Calls.Answer.{done, reading, refused}
+use Rattle.player.specs.Calls.{PlayerAnswer, PlayerStrips, call_checked, worked, passed_or, outcome, Does}
+use Rattle.player.specs.Calls.PlayerCall.{touches, steps}
+use Rattle.player.specs.Calls.PlayerAnswer.{done, reading, refused}
 use Rattle.player.specs.Logs.{accepted}
 use Rattle.player.specs.Answers.{strips}
 use Rattle.player.specs.Scripts.{left_by, cells_after}
@@ -16,19 +16,19 @@ cond_same : {X : Type 0} (b : Bool) (x : X) → cond b x x ≡ x
 cond_same true x = refl
 cond_same false x = refl
 
-accepted_same : {A X : Type 0} (said : Answer A) (x : X) → accepted said x x ≡ x
+accepted_same : {A X : Type 0} (said : PlayerAnswer A) (x : X) → accepted said x x ≡ x
 accepted_same done x = refl
 accepted_same (reading o c t n) x = refl
 accepted_same (refused f) x = refl
 
 -- a touch leaves the ring open
-pub touches_after : {C : Type 0} (K : Kind C) (r : Local) (d : Weights K.group.Carrier) (L i a : ℕ) (s : Strips K.group.Carrier) →
+pub touches_after : {C : Type 0} (K : Kind C) (r : Local) (d : Weights K.group.Carrier) (L i a : ℕ) (s : PlayerStrips K.group.Carrier) →
     L ≡ cells_after K r d L (touches i a) s
 touches_after K r d L i a s = sym (ap (λ n. cond (leb 1 L) n L) (accepted_same (outcome K r d L (touches i a) s).said L) ∙ cond_same (leb 1 L) L)
 
 module _ {C : Type 0} (K : Kind C) (r : Local) (d : Weights K.group.Carrier) (L : ℕ) (playing : 1 ≤ L) (cells spare cells' spare' : List ℕ) (opening crossed touched crossed' touched' : List C)
-    (said : Answer K.group.Carrier) where
-  abbrev all : Strips K.group.Carrier
+    (said : PlayerAnswer K.group.Carrier) where
+  abbrev all : PlayerStrips K.group.Carrier
   all = strips K cells spare opening crossed touched
 
   open_ring : leb 1 L ≡ true
@@ -55,7 +55,7 @@ module _ {C : Type 0} (K : Kind C) (r : Local) (d : Weights K.group.Carrier) (L 
         strips K cells' spare opening crossed touched' ≡ left_by K r d L (touches i a) all
     touches_left does =
         sym (ap (λ b. cond b (outcome K r d L (touches i a) all).left all) open_ring
-        ∙ ap (λ o. o.left) (touches_widens (checked r.q L (touches i a) all))
+        ∙ ap (λ o. o.left) (touches_widens (call_checked r.q L (touches i a) all))
         ∙ ap (λ o. record { cells = o.left.cells; spare = spare; opening = map K.means opening; crossed = map K.means crossed; touched = o.left.touched }) does)
 
   steps_widens : (w : Result (Unit {0}) Refusal) →
@@ -78,5 +78,5 @@ module _ {C : Type 0} (K : Kind C) (r : Local) (d : Weights K.group.Carrier) (L 
       strips K cells' spare' opening crossed' touched ≡ left_by K r d L steps all
   steps_left does =
       sym (ap (λ b. cond b (outcome K r d L steps all).left all) open_ring
-      ∙ ap (λ o. o.left) (steps_widens (checked r.q L steps all))
+      ∙ ap (λ o. o.left) (steps_widens (call_checked r.q L steps all))
       ∙ ap (λ o. record { cells = o.left.cells; spare = o.left.spare; opening = map K.means opening; crossed = o.left.crossed; touched = map K.means touched }) does)

@@ -13,28 +13,28 @@ use Rattle.criterion.specs.Search.{padding, J}
 use Rattle.bench.specs.Labels.{rule_label_list}
 
 -- open takes a ring, touch a position and a letter, read a position
-pub data Call : Type 0 where
-  opens : List ℕ → Call
-  touches : ℕ → ℕ → Call
-  steps : Call
-  reads : ℕ → Call
-  closes : Call
+pub data PlayerCall : Type 0 where
+  opens : List ℕ → PlayerCall
+  touches : ℕ → ℕ → PlayerCall
+  steps : PlayerCall
+  reads : ℕ → PlayerCall
+  closes : PlayerCall
 
 -- a call is done, or answers a site's opening, crossed and touched charges and its charge now, or is refused
-pub data Answer (A : Type 0) : Type 0 where
-  done : Answer A
-  reading : A → A → A → A → Answer A
-  refused : Refusal → Answer A
+pub data PlayerAnswer (A : Type 0) : Type 0 where
+  done : PlayerAnswer A
+  reading : A → A → A → A → PlayerAnswer A
+  refused : Refusal → PlayerAnswer A
 
 -- a ring of L cells, with three charges a site
-pub record Ring (A : Type 0) : Type 0 where
+pub record PlayerRing (A : Type 0) : Type 0 where
   pub cells : List ℕ
   pub opening : List A
   pub crossed : List A
   pub touched : List A
 
 -- The five strips of a caller, each of any length. A call looks only at those that it reads or writes.
-pub record Strips (A : Type 0) : Type 0 where
+pub record PlayerStrips (A : Type 0) : Type 0 where
   pub cells : List ℕ
   pub spare : List ℕ
   pub opening : List A
@@ -42,7 +42,7 @@ pub record Strips (A : Type 0) : Type 0 where
   pub touched : List A
 
 -- how many cells the ring of a call has: the ring that open is given, or else the ring of L cells that is open
-abbrev pub size : Call → ℕ → ℕ
+abbrev pub size : PlayerCall → ℕ → ℕ
 size (opens ring) L = length ring
 size (touches i a) L = L
 size steps L = L
@@ -50,7 +50,7 @@ size (reads i) L = L
 size closes L = L
 
 -- what a call on a ring of L cells is held to, in the order of the stop codes
-abbrev pub tests : {A : Type 0} → ℕ → Call → Strips A → List (Bool × Stop)
+abbrev pub tests : {A : Type 0} → ℕ → PlayerCall → PlayerStrips A → List (Bool × Stop)
 tests L (opens ring) s =
     (within 1 (suc most_cells) L, BadLength)
     ∷ (nat_le L (min (min (min (length s.cells) (length s.opening)) (length s.crossed)) (length s.touched)), ShortStrip)
@@ -63,17 +63,17 @@ tests L (reads i) s =
     ∷ []
 tests L closes s = []
 
--- the letters that a call is held to last: those of the ring, and then the letter of a touch
-abbrev pub letters : {A : Type 0} → ℕ → Call → Strips A → List ℕ
-letters L (opens ring) s = ring
-letters L (touches i a) s = take L s.cells ++ (a ∷ [])
-letters L steps s = take L s.cells
-letters L (reads i) s = take L s.cells
-letters L closes s = []
+-- the call_letters that a call is held to last: those of the ring, and then the letter of a touch
+abbrev pub call_letters : {A : Type 0} → ℕ → PlayerCall → PlayerStrips A → List ℕ
+call_letters L (opens ring) s = ring
+call_letters L (touches i a) s = take L s.cells ++ (a ∷ [])
+call_letters L steps s = take L s.cells
+call_letters L (reads i) s = take L s.cells
+call_letters L closes s = []
 
 -- the refusal of a call, if there is one, by the strips that it is handed
-abbrev pub checked : {A : Type 0} → ℕ → ℕ → Call → Strips A → Result (Unit {0}) Refusal
-checked q L call s = and_then (tested (tests L call s)) (λ _. each_fits (λ a. nat_lt a q) BadLetter 0 (letters L call s))
+abbrev pub call_checked : {A : Type 0} → ℕ → ℕ → PlayerCall → PlayerStrips A → Result (Unit {0}) Refusal
+call_checked q L call s = and_then (tested (tests L call s)) (λ _. each_fits (λ a. nat_lt a q) BadLetter 0 (call_letters L call s))
 
 -- x where a call has passed its tests, and y of its refusal otherwise
 abbrev pub passed_or : {X : Type 0} → Result (Unit {0}) Refusal → X → (Refusal → X) → X
@@ -85,11 +85,11 @@ abbrev pub booked : (G : Group) → (ℕ → G.Carrier) → List G.Carrier → L
 booked G f xs = table (length xs) (λ i. G.add (slice_index_or xs i G.zero) (f i))
 
 -- the first L entries of a caller's strips
-abbrev pub front : {A : Type 0} → ℕ → Strips A → Ring A
-front L s = record { cells = take L s.cells; opening = take L s.opening; crossed = take L s.crossed; touched = take L s.touched }
+abbrev pub ring_in : {A : Type 0} → ℕ → PlayerStrips A → PlayerRing A
+ring_in L s = record { cells = take L s.cells; opening = take L s.opening; crossed = take L s.crossed; touched = take L s.touched }
 
 -- a step keeps the cells as they stood
-abbrev pub spared : {A : Type 0} → ℕ → Call → Strips A → List ℕ
+abbrev pub spared : {A : Type 0} → ℕ → PlayerCall → PlayerStrips A → List ℕ
 spared L (opens ring) s = s.spare
 spared L (touches i a) s = s.spare
 spared L steps s = take L s.cells ++ drop L s.spare
@@ -97,9 +97,9 @@ spared L (reads i) s = s.spare
 spared L closes s = s.spare
 
 -- what a call answers, and the strips as it leaves them
-pub record Outcome (A : Type 0) : Type 0 where
-  pub said : Answer A
-  pub left : Strips A
+pub record CallOutcome (A : Type 0) : Type 0 where
+  pub said : PlayerAnswer A
+  pub left : PlayerStrips A
 
 -- a rule and a density that make a bench
 module _ {C : Type 0} (K : Kind C) (r : Local) (d : Weights K.group.Carrier) where
@@ -112,7 +112,7 @@ module _ {C : Type 0} (K : Kind C) (r : Local) (d : Weights K.group.Carrier) whe
   crossing_at c i = J K padding (rule_label_list K.group r d) (window (r.n + d.k - 2) (cell c) (before (length c) r.l i))
 
   -- a ring as it is opened
-  abbrev pub opened : List ℕ → Ring K.group.Carrier
+  abbrev pub opened : List ℕ → PlayerRing K.group.Carrier
   opened c = record {
     cells = c;
     opening = table (length c) (charges c);
@@ -121,7 +121,7 @@ module _ {C : Type 0} (K : Kind C) (r : Local) (d : Weights K.group.Carrier) whe
   }
 
   -- a ring with letter a put into cell i: each site is touched by its charge afterwards less its charge before
-  abbrev pub put : ℕ → ℕ → Ring K.group.Carrier → Ring K.group.Carrier
+  abbrev pub put : ℕ → ℕ → PlayerRing K.group.Carrier → PlayerRing K.group.Carrier
   put i a p = record {
     cells = set p.cells i a;
     opening = p.opening;
@@ -130,7 +130,7 @@ module _ {C : Type 0} (K : Kind C) (r : Local) (d : Weights K.group.Carrier) whe
   }
 
   -- a ring after one step: each site is crossed by what crosses into it
-  abbrev pub stepped : Ring K.group.Carrier → Ring K.group.Carrier
+  abbrev pub stepped : PlayerRing K.group.Carrier → PlayerRing K.group.Carrier
   stepped p = record {
     cells = next r p.cells;
     opening = p.opening;
@@ -139,7 +139,7 @@ module _ {C : Type 0} (K : Kind C) (r : Local) (d : Weights K.group.Carrier) whe
   }
 
   -- what a call that is not refused makes of a ring
-  abbrev pub work : Call → Ring K.group.Carrier → Ring K.group.Carrier
+  abbrev pub work : PlayerCall → PlayerRing K.group.Carrier → PlayerRing K.group.Carrier
   work (opens ring) p = opened ring
   work (touches i a) p = put i a p
   work steps p = stepped p
@@ -147,32 +147,32 @@ module _ {C : Type 0} (K : Kind C) (r : Local) (d : Weights K.group.Carrier) whe
   work closes p = p
 
   -- and what it answers
-  abbrev pub answer : Call → Ring K.group.Carrier → Answer K.group.Carrier
-  answer (opens ring) p = done
-  answer (touches i a) p = done
-  answer steps p = done
-  answer (reads i) p =
+  abbrev pub call_answer : PlayerCall → PlayerRing K.group.Carrier → PlayerAnswer K.group.Carrier
+  call_answer (opens ring) p = done
+  call_answer (touches i a) p = done
+  call_answer steps p = done
+  call_answer (reads i) p =
       let at : List K.group.Carrier → K.group.Carrier = λ xs. slice_index_or xs i K.group.zero in
       reading (at p.opening) (at p.crossed) (at p.touched) (charges p.cells i)
-  answer closes p = done
+  call_answer closes p = done
 
   -- a call that is not refused works on the first L entries of the strips, and those past L stay
-  abbrev pub worked : ℕ → Call → Strips K.group.Carrier → Outcome K.group.Carrier
+  abbrev pub worked : ℕ → PlayerCall → PlayerStrips K.group.Carrier → CallOutcome K.group.Carrier
   worked L call s = record {
-    said = answer call (front L s);
+    said = call_answer call (ring_in L s);
     left = record {
-      cells = (work call (front L s)).cells ++ drop L s.cells;
+      cells = (work call (ring_in L s)).cells ++ drop L s.cells;
       spare = spared L call s;
-      opening = (work call (front L s)).opening ++ drop L s.opening;
-      crossed = (work call (front L s)).crossed ++ drop L s.crossed;
-      touched = (work call (front L s)).touched ++ drop L s.touched;
+      opening = (work call (ring_in L s)).opening ++ drop L s.opening;
+      crossed = (work call (ring_in L s)).crossed ++ drop L s.crossed;
+      touched = (work call (ring_in L s)).touched ++ drop L s.touched;
     };
   }
 
   -- A call on a ring of L cells, by the strips that it is handed. A refused call leaves all as it was.
-  abbrev pub outcome : ℕ → Call → Strips K.group.Carrier → Outcome K.group.Carrier
-  outcome L call s = passed_or (checked r.q L call s) (worked L call s) (λ f. record { said = refused f; left = s })
+  abbrev pub outcome : ℕ → PlayerCall → PlayerStrips K.group.Carrier → CallOutcome K.group.Carrier
+  outcome L call s = passed_or (call_checked r.q L call s) (worked L call s) (λ f. record { said = refused f; left = s })
 
   -- the promise of a call: what it answers, and how it leaves the strips
-  abbrev pub Does : ℕ → Call → Strips K.group.Carrier → Answer K.group.Carrier → Strips K.group.Carrier → Type 0
+  abbrev pub Does : ℕ → PlayerCall → PlayerStrips K.group.Carrier → PlayerAnswer K.group.Carrier → PlayerStrips K.group.Carrier → Type 0
   Does L call handed said left = outcome L call handed ≡ record { said = said; left = left }

@@ -3,7 +3,7 @@ use Rattle.std.specs.Prelude.{◌≡◌, ℕ, List, [], length, map, take, set, 
 use Rattle.std.specs.Borrow.{MutBor}
 use Rattle.fault.specs.Refusals.{Refusal}
 use Rattle.charge.specs.Groups.{Kind, minus}
-use Rattle.criterion.specs.Strips.{FrontMeans}
+use Rattle.criterion.specs.ChargeStrips.{FrontMeans}
 use Rattle.charge.specs.declared.Charge.{Ghosts as ChargeOf}
 use Rattle.automaton.specs.declared.rule.Rule.{Ghosts as RuleOf}
 use Rattle.automaton.specs.declared.density.Density.{Ghosts as DensityOf}
@@ -21,9 +21,9 @@ use Rattle.player.specs.declared.playing.Playing.{Playing}
 use Rattle.player.specs.declared.sites.Sites.{Sites}
 use Rattle.player.specs.declared.sites.Crossings.{Crossings}
 use Rattle.player.specs.Answers.{strips, of_player, open_cells}
-use Rattle.player.specs.Calls.{Call, Answer, Ring, Strips, charges, crossing_at, booked, checked, Does}
-use Rattle.player.specs.Calls.Call.{closes}
-use Rattle.player.specs.Calls.Answer.{done}
+use Rattle.player.specs.Calls.{PlayerCall, PlayerAnswer, PlayerRing, PlayerStrips, charges, crossing_at, booked, call_checked, Does}
+use Rattle.player.specs.Calls.PlayerCall.{closes}
+use Rattle.player.specs.Calls.PlayerAnswer.{done}
 use Rattle.player.specs.Logs.{GoesOn}
 
 -- an open ring: the bench that it is played on, and how many cells it has
@@ -90,17 +90,17 @@ abbrev pub Books : {C : Type 0} → (K : Kind C) → ℕ → (ℕ → K.group.Ca
 Books K n f old new = FrontMeans K (booked K.group f (take n (map K.means old))) old new
 
 -- the strips that a call takes: those that it does not take have no place here
-abbrev pub step_strips : {C : Type 0} → List ℕ → List ℕ → List C → Strips C
+abbrev pub step_strips : {C : Type 0} → List ℕ → List ℕ → List C → PlayerStrips C
 step_strips cells spare crossed = record { cells = cells; spare = spare; opening = []; crossed = crossed; touched = [] }
 
-abbrev pub touch_strips : {C : Type 0} → List ℕ → List C → Strips C
+abbrev pub touch_strips : {C : Type 0} → List ℕ → List C → PlayerStrips C
 touch_strips cells touched = record { cells = cells; spare = []; opening = []; crossed = []; touched = touched }
 
-abbrev pub all_strips : {C : Type 0} → List ℕ → List ℕ → List C → List C → List C → Strips C
+abbrev pub all_strips : {C : Type 0} → List ℕ → List ℕ → List C → List C → List C → PlayerStrips C
 all_strips cells spare opening crossed touched = record { cells = cells; spare = spare; opening = opening; crossed = crossed; touched = touched }
 
 -- open and read take these
-abbrev pub meter_strips : {C : Type 0} → List ℕ → List C → List C → List C → Strips C
+abbrev pub meter_strips : {C : Type 0} → List ℕ → List C → List C → List C → PlayerStrips C
 meter_strips cells opening crossed touched = record { cells = cells; spare = []; opening = opening; crossed = crossed; touched = touched }
 
 -- the charges of a ledger's sites as they stand, and that two ledgers, or a ledger and what is lent, are over one strip
@@ -114,19 +114,19 @@ abbrev pub SameStrip : {C : Type 0} → Ledger C → Ledger C → Type 0
 SameStrip l m = m.sites.ghost_name ≡ l.sites.ghost_name
 
 -- strips by what their charges mean
-abbrev pub meant : {C : Type 0} → (K : Kind C) → Strips C → Strips K.group.Carrier
+abbrev pub meant : {C : Type 0} → (K : Kind C) → PlayerStrips C → PlayerStrips K.group.Carrier
 meant K s = strips K s.cells s.spare s.opening s.crossed s.touched
 
 module _ {C : Type 0} {K : Kind C} (ring : OpenRing K) where
   -- the refusal of a call, if there is one, by the strips that it is handed
-  abbrev pub tested_by : Call → Strips C → Result (Unit {0}) Refusal
-  tested_by call s = checked ring.bench.rule.q ring.len call (meant K s)
+  abbrev pub tested_by : PlayerCall → PlayerStrips C → Result (Unit {0}) Refusal
+  tested_by call s = call_checked ring.bench.rule.q ring.len call (meant K s)
 
   -- the promise of a call: what it answers, and how it leaves the strips
-  abbrev pub DoesOn : Call → Strips C → Answer K.group.Carrier → Strips C → Type 0
+  abbrev pub DoesOn : PlayerCall → PlayerStrips C → PlayerAnswer K.group.Carrier → PlayerStrips C → Type 0
   DoesOn call old said new = Does K ring.bench.rule ring.bench.density ring.len call (meant K old) said (meant K new)
 
   -- Wherever this ring stands a close goes on, whatever strips there are: it is done, and leaves each as it is.
   abbrev pub ClosesAnywhere : Type 0
-  ClosesAnywhere = (p : Ring K.group.Carrier) → length p.cells ≡ ring.len → (s : Strips K.group.Carrier) →
+  ClosesAnywhere = (p : PlayerRing K.group.Carrier) → length p.cells ≡ ring.len → (s : PlayerStrips K.group.Carrier) →
       GoesOn K ring.bench.rule ring.bench.density p (record { call = closes; handed = s; got = record { said = done; left = s } })

@@ -20,7 +20,7 @@ use Rattle.bench.specs.Verdicts.{Judgement, Lent}
 use Rattle.bench.specs.Verdicts.Judgement.{holds, breaks}
 use Rattle.player.specs.declared.player.Player.{Player}
 use Rattle.player.specs.Answers.{open_cells}
-use Rattle.player.specs.Calls.{Call, Answer, Strips}
+use Rattle.player.specs.Calls.{PlayerCall, PlayerAnswer, PlayerStrips}
 use Rattle.player.specs.Logs.{standing, OnEveryLine, WithoutGaps, LineTrue}
 use Rattle.player.specs.Scripts.{played}
 
@@ -50,23 +50,23 @@ module _ {C : Type 0} {K : Kind C} (b : Bench K) where
   CrossingsTrue (Err f) strip = Unit {0}
 
   -- under "holds" the strips, the answers and how many cells the open ring has are those of the script's log
-  abbrev pub Plays : Result (Judgement K.group.Carrier) Refusal → List Call → Strips K.group.Carrier → Strips K.group.Carrier →
-      List (Option (Answer K.group.Carrier)) → ℕ → Type 0
+  abbrev pub Plays : Result (Judgement K.group.Carrier) Refusal → List PlayerCall → PlayerStrips K.group.Carrier → PlayerStrips K.group.Carrier →
+      List (Option (PlayerAnswer K.group.Carrier)) → ℕ → Type 0
   Plays (Ok holds) script handed left said cells =
       let p = played K b.rule b.density handed script in (left ≡ p.strips) × (said ≡ p.said) × (cells ≡ length (standing p.log).cells)
   Plays (Ok (breaks f)) script handed left said cells = Unit {0}
   Plays (Err f) script handed left said cells = Unit {0}
 
   -- and that log has no gaps and is true on every line
-  abbrev pub LogTrue : Result (Judgement K.group.Carrier) Refusal → List Call → Strips K.group.Carrier → Type 0
+  abbrev pub LogTrue : Result (Judgement K.group.Carrier) Refusal → List PlayerCall → PlayerStrips K.group.Carrier → Type 0
   LogTrue (Ok holds) script handed =
       let log = (played K b.rule b.density handed script).log in WithoutGaps K b.rule b.density log × OnEveryLine (LineTrue K b.rule b.density) log
   LogTrue (Ok (breaks f)) script handed = Unit {0}
   LogTrue (Err f) script handed = Unit {0}
 
   -- both of these
-  abbrev pub ScriptTrue : Result (Judgement K.group.Carrier) Refusal → List Call → Strips K.group.Carrier → Strips K.group.Carrier →
-      List (Option (Answer K.group.Carrier)) → ℕ → Type 0
+  abbrev pub ScriptTrue : Result (Judgement K.group.Carrier) Refusal → List PlayerCall → PlayerStrips K.group.Carrier → PlayerStrips K.group.Carrier →
+      List (Option (PlayerAnswer K.group.Carrier)) → ℕ → Type 0
   ScriptTrue judged script handed left said cells = Plays judged script handed left said cells × LogTrue judged script handed
 
 -- how many cells the ring has that is open on a bench that holds

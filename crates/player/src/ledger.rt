@@ -1,7 +1,7 @@
 // Ledgers: what a ring's strips of charges are read and written by.
 ghost use Rattle.std.specs.Prelude.{◌≡◌, ◌+◌, ◌<◌, ◌≤◌, map, length, take, drop, slice_set, slice_index_or};
 ghost use Rattle.automaton.specs.Words.{table};
-ghost use Rattle.criterion.specs.Strips.{FrontMeans};
+ghost use Rattle.criterion.specs.ChargeStrips.{FrontMeans};
 ghost use Rattle.player.specs.Calls.{booked};
 ghost use Rattle.player.specs.Near.{back, up_to};
 ghost use Rattle.player.specs.Promises.{Books};

@@ -1,10 +1,10 @@
 // Opening a ring on a bench that holds.
 ghost use Rattle.std.specs.Prelude.{◌≡◌, ◌≤◌, length, Ok, Err, MatchResult};
-ghost use Rattle.fault.specs.Answers.{front};
+ghost use Rattle.fault.specs.Answers.{at_front};
 ghost use Rattle.fault.specs.Refusals.{refusal};
 ghost use Rattle.automaton.specs.Words.{table};
-ghost use Rattle.criterion.specs.Strips.{FrontMeans};
-ghost use Rattle.player.specs.Calls.Call.{opens};
+ghost use Rattle.criterion.specs.ChargeStrips.{FrontMeans};
+ghost use Rattle.player.specs.Calls.PlayerCall.{opens};
 ghost use Rattle.bench.specs.States.{holding_bench};
 ghost use Rattle.player.specs.Answers.{open_said, Stays};
 ghost use Rattle.player.specs.Logs.{LogsTrueOn};
@@ -53,7 +53,7 @@ fn open_on<C: Charge, R: Rule, D: Density<C>>(
     requires room { let n = length sites.now.ring.cells.now in
         (n ≤ length cells.old) × (n ≤ length opening.old) × (n ≤ length crossed.old)
         × (n ≤ length touched.old) }
-    ensures cells { cells.new ≡ front sites.now.ring.cells.now cells.old }
+    ensures cells { cells.new ≡ at_front sites.now.ring.cells.now cells.old }
     ensures opening { let ring = sites_ring sites.now in
         let all = table ring.len (site_charges ring.bench sites.now.ring.cells.now) in
         FrontMeans C.kind all opening.old opening.new }

@@ -6,7 +6,7 @@ ghost use Rattle.bench.specs.Verdicts.{lent};
 ghost use Rattle.player.specs.Laws.{RefusalsFit, StepsOn};
 ghost use Rattle.player.specs.Logs.{longest_opened, LogsTrue};
 ghost use Rattle.player.specs.Obeying.{played_on, front_of_all, StaysPast};
-ghost use Rattle.player.specs.Answers.{asked, answers_to};
+ghost use Rattle.player.specs.Answers.{call_meant, answers_to};
 ghost use Rattle.player.specs.Promises.{all_strips, meant, ring_len, HandsOnPlayer};
 ghost use Rattle.player.specs.Whole.{JudgedFor, VerdictTrue, CrossingsTrue, Plays, ScriptTrue, cells_open, UnlessHolds};
 
@@ -44,11 +44,11 @@ fn perform_on<C: Charge, R: Rule, D: Density<C>>(
         ) }
     ensures charges { let p = played_on (draft_bench draft)
         (all_strips cells.old spare.old opening.old crossed.old touched.old)
-        (map asked script.now) in
+        (map call_meant script.now) in
         StaysPast (front_of_all (longest_opened p.log))
         (all_strips cells.old spare.old opening.old crossed.old touched.old)
         (all_strips cells.new spare.new opening.new crossed.new touched.new) }
-    ensures script { Plays (draft_bench draft) (judge_said C.kind result) (map asked script.now)
+    ensures script { Plays (draft_bench draft) (judge_said C.kind result) (map call_meant script.now)
         (meant C.kind (all_strips cells.old spare.old opening.old crossed.old touched.old))
         (meant C.kind (all_strips cells.new spare.new opening.new crossed.new touched.new))
         (answers_to C.kind script.now answers.new) (cells_open ring_len result) }
@@ -95,7 +95,7 @@ pub fn perform<C: Charge, R: Rule, D: Density<C>>(
         ) }
     ensures charges { let p = played_on (draft_bench draft)
         (all_strips cells.old spare.old opening.old crossed.old touched.old)
-        (map asked script.now) in
+        (map call_meant script.now) in
         StaysPast (front_of_all (longest_opened p.log))
         (all_strips cells.old spare.old opening.old crossed.old touched.old)
         (all_strips cells.new spare.new opening.new crossed.new touched.new) }
@@ -104,7 +104,7 @@ pub fn perform<C: Charge, R: Rule, D: Density<C>>(
         (map C.kind.means crossings.new) }
     ensures logs { LogsTrue C.kind }
     ensures script { ScriptTrue (draft_bench draft) (judge_said C.kind result)
-        (map asked script.now)
+        (map call_meant script.now)
         (meant C.kind (all_strips cells.old spare.old opening.old crossed.old touched.old))
         (meant C.kind (all_strips cells.new spare.new opening.new crossed.new touched.new))
         (answers_to C.kind script.now answers.new) (cells_open ring_len result) }

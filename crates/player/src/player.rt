@@ -2,7 +2,7 @@
 ghost use Rattle.std.specs.Prelude.{◌≡◌, ◌≤◌, map, length, drop};
 ghost use Rattle.std.specs.Option.{option_map};
 ghost use Rattle.bench.specs.States.{holding_bench};
-ghost use Rattle.player.specs.Answers.{asked, answered, answers_to, done_said, read_said, done_answer, read_answer, open_cells};
+ghost use Rattle.player.specs.Answers.{call_meant, answer_meant, answers_to, done_said, read_said, done_or_refused, read_or_refused, open_cells};
 ghost use Rattle.player.specs.Logs.{standing, longest_opened, LogsTrueOn};
 ghost use Rattle.player.specs.Promises.{all_strips, meant, ring_on, ring_len, open_ring, player_ring, player_holding, holding_under};
 ghost use Rattle.player.specs.Obeying.{said_on, left_on, cells_on, played_on, written_after, front_of_all, StaysPast};
@@ -26,8 +26,8 @@ pub enum Player<H, P> {
 pub type PlayerOf<C, R, D> = Player<Holding<C, R, D>, Playing<C, R, D>>;
 
 fn done_or_refused<C: Charge>(done: Result<(), Fault>) -> Answer<C>
-    ensures meaning { answered C.kind result ≡ done_said C.kind done }
-    ensures is { result ≡ done_answer done }
+    ensures meaning { answer_meant C.kind result ≡ done_said C.kind done }
+    ensures is { result ≡ done_or_refused done }
 {
     match done {
         Ok(()) => Answer::Done,
@@ -36,8 +36,8 @@ fn done_or_refused<C: Charge>(done: Result<(), Fault>) -> Answer<C>
 }
 
 fn read_or_refused<C: Charge>(read: Result<Reading<C>, Fault>) -> Answer<C>
-    ensures meaning { answered C.kind result ≡ read_said C.kind read }
-    ensures is { result ≡ read_answer read }
+    ensures meaning { answer_meant C.kind result ≡ read_said C.kind read }
+    ensures is { result ≡ read_or_refused read }
 {
     match read {
         Ok(reading) => Answer::Reading(reading),
@@ -55,16 +55,16 @@ fn obey_idle<C: Charge, R: Rule, D: Density<C>>(
     crossed: &mut [C],
     touched: &mut [C],
 ) -> (PlayerOf<C, R, D>, Option<Answer<C>>)
-    ensures said { option_map (answered C.kind) result.1
-        ≡ said_on (ring_on bench 0) (asked call.entry)
+    ensures said { option_map (answer_meant C.kind) result.1
+        ≡ said_on (ring_on bench 0) (call_meant call.entry)
         (all_strips cells.old spare.now opening.old crossed.old touched.old) }
     ensures left { meant C.kind (all_strips cells.new spare.now opening.new crossed.new touched.new)
-        ≡ left_on (ring_on bench 0) (asked call.entry)
+        ≡ left_on (ring_on bench 0) (call_meant call.entry)
         (all_strips cells.old spare.now opening.old crossed.old touched.old) }
     ensures cells { open_cells ring_len result.0
-        ≡ cells_on (ring_on bench 0) (asked call.entry)
+        ≡ cells_on (ring_on bench 0) (call_meant call.entry)
         (all_strips cells.old spare.now opening.old crossed.old touched.old) }
-    ensures charges { StaysPast (written_after result.1 (asked call.entry) 0)
+    ensures charges { StaysPast (written_after result.1 (call_meant call.entry) 0)
         (all_strips cells.old spare.now opening.old crossed.old touched.old)
         (all_strips cells.new spare.now opening.new crossed.new touched.new) }
     ensures bench { player_holding result.0 ≡ bench }
@@ -91,16 +91,16 @@ fn obey_playing<C: Charge, R: Rule, D: Density<C>>(
     crossed: &mut [C],
     touched: &mut [C],
 ) -> (PlayerOf<C, R, D>, Option<Answer<C>>)
-    ensures said { option_map (answered C.kind) result.1
-        ≡ said_on (open_ring playing) (asked call.entry)
+    ensures said { option_map (answer_meant C.kind) result.1
+        ≡ said_on (open_ring playing) (call_meant call.entry)
         (all_strips cells.old spare.old opening.old crossed.old touched.old) }
     ensures left { meant C.kind (all_strips cells.new spare.new opening.new crossed.new touched.new)
-        ≡ left_on (open_ring playing) (asked call.entry)
+        ≡ left_on (open_ring playing) (call_meant call.entry)
         (all_strips cells.old spare.old opening.old crossed.old touched.old) }
     ensures cells { open_cells ring_len result.0
-        ≡ cells_on (open_ring playing) (asked call.entry)
+        ≡ cells_on (open_ring playing) (call_meant call.entry)
         (all_strips cells.old spare.old opening.old crossed.old touched.old) }
-    ensures charges { StaysPast (written_after result.1 (asked call.entry) (open_ring playing).len)
+    ensures charges { StaysPast (written_after result.1 (call_meant call.entry) (open_ring playing).len)
         (all_strips cells.old spare.old opening.old crossed.old touched.old)
         (all_strips cells.new spare.new opening.new crossed.new touched.new) }
     ensures bench { player_holding result.0 ≡ holding_under playing }
@@ -135,16 +135,16 @@ pub fn obey<C: Charge, R: Rule, D: Density<C>>(
     crossed: &mut [C],
     touched: &mut [C],
 ) -> (PlayerOf<C, R, D>, Option<Answer<C>>)
-    ensures said { option_map (answered C.kind) result.1
-        ≡ said_on (player_ring player) (asked call.entry)
+    ensures said { option_map (answer_meant C.kind) result.1
+        ≡ said_on (player_ring player) (call_meant call.entry)
         (all_strips cells.old spare.old opening.old crossed.old touched.old) }
     ensures left { meant C.kind (all_strips cells.new spare.new opening.new crossed.new touched.new)
-        ≡ left_on (player_ring player) (asked call.entry)
+        ≡ left_on (player_ring player) (call_meant call.entry)
         (all_strips cells.old spare.old opening.old crossed.old touched.old) }
     ensures cells { open_cells ring_len result.0
-        ≡ cells_on (player_ring player) (asked call.entry)
+        ≡ cells_on (player_ring player) (call_meant call.entry)
         (all_strips cells.old spare.old opening.old crossed.old touched.old) }
-    ensures charges { StaysPast (written_after result.1 (asked call.entry) (player_ring player).len)
+    ensures charges { StaysPast (written_after result.1 (call_meant call.entry) (player_ring player).len)
         (all_strips cells.old spare.old opening.old crossed.old touched.old)
         (all_strips cells.new spare.new opening.new crossed.new touched.new) }
     ensures bench { player_holding result.0 ≡ player_holding player }
@@ -173,23 +173,23 @@ pub(crate) fn play<C: Charge, R: Rule, D: Density<C>>(
     ensures bench { player_holding result ≡ bench }
     ensures strips { let p = played_on (holding_bench bench)
         (all_strips cells.old spare.old opening.old crossed.old touched.old)
-        (map asked script.now) in
+        (map call_meant script.now) in
         meant C.kind (all_strips cells.new spare.new opening.new crossed.new touched.new)
         ≡ p.strips }
     ensures answers { let p = played_on (holding_bench bench)
         (all_strips cells.old spare.old opening.old crossed.old touched.old)
-        (map asked script.now) in
+        (map call_meant script.now) in
         answers_to C.kind script.now answers.new ≡ p.said }
     ensures past { drop (length script.now) answers.new ≡ drop (length script.now) answers.old }
     ensures charges { let p = played_on (holding_bench bench)
         (all_strips cells.old spare.old opening.old crossed.old touched.old)
-        (map asked script.now) in
+        (map call_meant script.now) in
         StaysPast (front_of_all (longest_opened p.log))
         (all_strips cells.old spare.old opening.old crossed.old touched.old)
         (all_strips cells.new spare.new opening.new crossed.new touched.new) }
     ensures cells { let p = played_on (holding_bench bench)
         (all_strips cells.old spare.old opening.old crossed.old touched.old)
-        (map asked script.now) in
+        (map call_meant script.now) in
         open_cells ring_len result ≡ length (standing p.log).cells }
 {
     let mut player = Player::Idle(bench);

@@ -1,7 +1,7 @@
 // Reading the meters of a site of the open ring.
 ghost use Rattle.std.specs.Prelude.{◌≡◌, Ok};
 ghost use Rattle.fault.specs.Answers.{plainly};
-ghost use Rattle.player.specs.Calls.Call.{reads};
+ghost use Rattle.player.specs.Calls.PlayerCall.{reads};
 ghost use Rattle.player.specs.Answers.{reading_means, read_said};
 ghost use Rattle.player.specs.Promises.{open_ring, meter_strips, tested_by, DoesOn};
 

@@ -1,9 +1,9 @@
 // One step of the open ring.
 ghost use Rattle.std.specs.Prelude.{◌≡◌, ◌≤◌, length, take, Ok};
-ghost use Rattle.fault.specs.Answers.{plainly, front};
+ghost use Rattle.fault.specs.Answers.{plainly, at_front};
 ghost use Rattle.automaton.specs.Making.{ring_checked};
 ghost use Rattle.automaton.specs.Meanings.{next};
-ghost use Rattle.player.specs.Calls.Call.{steps};
+ghost use Rattle.player.specs.Calls.PlayerCall.{steps};
 ghost use Rattle.player.specs.Answers.{done_said, Stays};
 ghost use Rattle.player.specs.Promises.{open_ring, ring_len, step_strips, tested_by, site_crossings, Books, DoesOn};
 
@@ -35,8 +35,8 @@ impl<C: Charge, R: Rule, D: Density<C>> Playing<C, R, D> {
             ring_checked ring.bench.rule.q (length cells.old) old ≡ Ok old }
         ensures answer { plainly result ≡ Ok tt }
         ensures cells { let ring = open_ring self.now in
-            cells.new ≡ front (next ring.bench.rule (take ring.len cells.old)) cells.old }
-        ensures spare { spare.new ≡ front (take (ring_len self.now) cells.old) spare.old }
+            cells.new ≡ at_front (next ring.bench.rule (take ring.len cells.old)) cells.old }
+        ensures spare { spare.new ≡ at_front (take (ring_len self.now) cells.old) spare.old }
     {
         let spare = &mut spare[..self.len];
         spare.copy_from_slice(&cells[..self.len]);
@@ -49,8 +49,8 @@ impl<C: Charge, R: Rule, D: Density<C>> Playing<C, R, D> {
             (step_strips cells.old spare.old crossed.old) ≡ Ok tt }
         ensures answer { plainly result ≡ Ok tt }
         ensures cells { let ring = open_ring self.now in
-            cells.new ≡ front (next ring.bench.rule (take ring.len cells.old)) cells.old }
-        ensures spare { spare.new ≡ front (take (ring_len self.now) cells.old) spare.old }
+            cells.new ≡ at_front (next ring.bench.rule (take ring.len cells.old)) cells.old }
+        ensures spare { spare.new ≡ at_front (take (ring_len self.now) cells.old) spare.old }
         ensures crossed { let ring = open_ring self.now in
             let flows = site_crossings ring.bench (take ring.len cells.old) in
             Books C.kind ring.len flows crossed.old crossed.new }

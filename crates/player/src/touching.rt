@@ -3,7 +3,7 @@ ghost use Rattle.std.specs.Prelude.{◌≡◌, ◌<◌, ◌≤◌, min, [], map,
 ghost use Rattle.fault.specs.declared.Stop.TheVariants.{BadLetter};
 ghost use Rattle.fault.specs.Answers.{plainly};
 ghost use Rattle.fault.specs.Refusals.{refused_at};
-ghost use Rattle.player.specs.Calls.Call.{touches};
+ghost use Rattle.player.specs.Calls.PlayerCall.{touches};
 ghost use Rattle.player.specs.Near.{up_to};
 ghost use Rattle.player.specs.Answers.{done_said, Stays};
 ghost use Rattle.player.specs.Promises.{open_ring, ring_len, sites_ring, touch_strips, touch_gain, tested_by, site_charges, site_opposites, Books, DoesOn};

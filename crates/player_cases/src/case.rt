@@ -3,7 +3,7 @@ use crate::kind::Played;
 use crate::numbers::{read_numbers, to_index, to_letters, to_short, to_size};
 use crate::playing::write_performed;
 use crate::script::to_script;
-use crate::strips::Strips;
+use crate::strips::CaseStrips;
 use anyhow::{anyhow, bail};
 use automaton::{Density, PatternDensity, Rule, SumRule, TableDensity, TableRule};
 use bench::Draft;
@@ -37,7 +37,7 @@ fn with_parts<C: Played, R: Rule + Drop, D: Density<C> + Drop, W: Write>(
 ) -> anyhow::Result<()> {
     let rings = to_letters(alloc, case.rings)?;
     let script = to_script(alloc, &rings, case.calls)?;
-    let mut strips = Strips::<C>::new(alloc, case.rooms)?;
+    let mut strips = CaseStrips::<C>::new(alloc, case.rooms)?;
     match Draft::new(rule, density) {
         Ok(draft) => write_performed(out, draft, &script, &mut strips, case.later)?,
         Err(refused) => made(Err(refused.fault))?,

@@ -3,7 +3,7 @@ use crate::kind::Played;
 use crate::numbers::{to_index, to_letter};
 use crate::script::to_call;
 use crate::show::{write_answer, write_charge, write_fault};
-use crate::strips::Strips;
+use crate::strips::CaseStrips;
 use automaton::{Density, Rule};
 use bench::{Break, Draft, Verdict};
 use fault::Fault;
@@ -29,7 +29,7 @@ fn done<C: Played>(done: Result<(), Fault>) -> Answer<C> {
 fn ask<C: Played, R: Rule, D: Density<C>>(
     playing: &Playing<C, R, D>,
     call: Call<'_>,
-    strips: &mut Strips<C>,
+    strips: &mut CaseStrips<C>,
     rooms: [i64; 5],
 ) -> Option<Answer<C>> {
     let cells = lent(&mut strips.cells, rooms[0]);
@@ -72,7 +72,7 @@ fn write_break<C: Played, W: Write>(out: &mut W, found: Break<C>) -> io::Result<
 fn write_later<C: Played, R: Rule, D: Density<C>, W: Write>(
     out: &mut W,
     playing: &Playing<C, R, D>,
-    strips: &mut Strips<C>,
+    strips: &mut CaseStrips<C>,
     numbers: &[i64],
 ) -> io::Result<()> {
     let [place, letter, rows @ ..] = numbers else {
@@ -91,7 +91,7 @@ fn write_later<C: Played, R: Rule, D: Density<C>, W: Write>(
 fn write_holding<C: Played, R: Rule + Drop, D: Density<C> + Drop, W: Write>(
     out: &mut W,
     player: PlayerOf<C, R, D>,
-    strips: &mut Strips<C>,
+    strips: &mut CaseStrips<C>,
     later: &[i64],
 ) -> io::Result<()> {
     match player {
@@ -110,7 +110,7 @@ fn write_holding<C: Played, R: Rule + Drop, D: Density<C> + Drop, W: Write>(
 fn write_verdict<C: Played, R: Rule + Drop, D: Density<C> + Drop, W: Write>(
     out: &mut W,
     verdict: Performed<C, R, D>,
-    strips: &mut Strips<C>,
+    strips: &mut CaseStrips<C>,
     later: &[i64],
 ) -> io::Result<()> {
     match verdict {
@@ -127,7 +127,7 @@ pub(crate) fn write_performed<C: Played, R: Rule + Drop, D: Density<C> + Drop, W
     out: &mut W,
     draft: Draft<C, R, D>,
     script: &[Call<'_>],
-    strips: &mut Strips<C>,
+    strips: &mut CaseStrips<C>,
     later: &[i64],
 ) -> io::Result<()> {
     match perform(

@@ -10,7 +10,7 @@ use std::io;
 use std::io::Write;
 
 #[derive(Drop)]
-pub struct Strips<C> {
+pub struct CaseStrips<C> {
     pub crossings: Vec<C>,
     pub ring: Vec<u8>,
     pub cells: Vec<u8>,
@@ -52,9 +52,9 @@ fn marked_answers<C: Played>(
     Ok(answers)
 }
 
-impl<C: Played> Strips<C> {
-    // Strips of these lengths.
-    pub(crate) fn new(alloc: Global, rooms: &[i64]) -> anyhow::Result<Strips<C>> {
+impl<C: Played> CaseStrips<C> {
+    // CaseStrips of these lengths.
+    pub(crate) fn new(alloc: Global, rooms: &[i64]) -> anyhow::Result<CaseStrips<C>> {
         let [
             crossings,
             ring,
@@ -68,7 +68,7 @@ impl<C: Played> Strips<C> {
         else {
             bail!("there are not eight lengths of strips");
         };
-        Ok(Strips {
+        Ok(CaseStrips {
             crossings: marked_charges(alloc, 400, *crossings)?,
             ring: marked_letters(alloc, 50, *ring)?,
             cells: marked_letters(alloc, 100, *cells)?,

@@ -12,12 +12,12 @@ use Rattle.charge.specs.declared.kind.ChargeKind.TheVariants.{Voices, Pitch, Cha
 use Rattle.charge.specs.Ranges.{voices_range}
 use Rattle.fault.specs.Answers.{and_then}
 use Rattle.preset.specs.declared.entry.Entry.{Entry}
-use Rattle.preset.specs.Answers.{Answer, many}
+use Rattle.preset.specs.Answers.{Parse, many}
 use Rattle.preset.specs.Entries.{zig, zag, signed_part, plain_end, signed_fits, plain_fits, fits, signed_read, plain_read, entry, signed_number, plain_number, part_bytes, entry_bytes}
 use Rattle.preset.specs.Fields.{field}
 use Rattle.preset.specs.Items.{sent}
 use Rattle.preset.specs.Laws.{Bytes}
-use Rattle.preset.specs.Numbers.{number, number_limit, spell}
+use Rattle.preset.specs.Numbers.{number_read, number_limit, spell}
 use Rattle.preset.proofs.NumberLaws.{number_reads_back, number_spells_back}
 use Rattle.preset.proofs.Outcomes.{and_ok, cond_ok, pair_0, pair_1}
 
@@ -28,13 +28,13 @@ bytes_after bs xs rest u e =
     rw d at (All-drop (λ b. b < 256) (length xs) bs u)
 
 -- What was sent is read, and what is read was sent so, for one item with what holds of it.
-pub record Faithful {X : Type 0} (read : List ℕ → Answer X) (sends : X → List ℕ) (Good : X → Type 0) : Type 0 where
+pub record Faithful {X : Type 0} (read : List ℕ → Parse X) (sends : X → List ℕ) (Good : X → Type 0) : Type 0 where
   pub back : (x : X) (rest : List ℕ) → Good x → read (sends x ++ rest) ≡ Ok (x, rest)
   pub good : (bs : List ℕ) (x : X) (rest : List ℕ) → Bytes bs → read bs ≡ Ok (x, rest) → Good x
   pub so : (bs : List ℕ) (x : X) (rest : List ℕ) → Bytes bs → read bs ≡ Ok (x, rest) → bs ≡ sends x ++ rest
 
 -- the same for many items
-module _ {X : Type 0} (read : List ℕ → Answer X) (sends : X → List ℕ) (Good : X → Type 0) (one : Faithful read sends Good) where
+module _ {X : Type 0} (read : List ℕ → Parse X) (sends : X → List ℕ) (Good : X → Type 0) (one : Faithful read sends Good) where
   pub many-back : (xs : List X) (rest : List ℕ) → AllByRecursion Good xs → many read (length xs) (sent sends xs ++ rest) ≡ Ok (xs, rest)
   many-back [] rest u = refl
   many-back (x ∷ xs) rest u = rw (append_assoc, one.back x (sent sends xs ++ rest) u.0, many-back xs rest u.1)
@@ -66,7 +66,7 @@ module _ {X : Type 0} (read : List ℕ → Answer X) (sends : X → List ℕ) (G
       let here = one.so bs x tail u s.1 in
       sent_cons n bs x tail ys more xs rest here (one.good bs x tail u s.1) (many_sent n tail ys more (bytes_after bs (sends x) tail u here) t.1) (pair_0 t.2) (pair_1 t.2)
 
--- a number in its range
+-- a number_read in its range
 module _ (whole low end : ℕ) (stop : Stop) where
   abbrev pub Within : ℕ → Type 0
   Within v = (low ≤ v) × (v < end) × (v ≤ number_limit)
@@ -75,14 +75,14 @@ module _ (whole low end : ℕ) (stop : Stop) where
   field_faithful = record {
     back = λ v rest g. rw (number_reads_back (whole - length (spell v ++ rest)) v rest g.2, le-leb low v g.0, lt-ltb v end g.1);
     good = λ bs v rest u e.
-        let s = and_ok (number (whole - length bs) bs) _ (v, rest) e in
+        let s = and_ok (number_read (whole - length bs) bs) _ (v, rest) e in
         let c = cond_ok (leb low s.0.0 && ltb s.0.0 end) s.0 _ (v, rest) s.2 in
         let i : s.0.0 ≡ v = ap (λ (x : ℕ × List ℕ). x.0) c.1 in
         let b = and_parts (leb low s.0.0) (ltb s.0.0 end) c.0 in
         let p = number_spells_back (whole - length bs) bs s.0.0 s.0.1 u s.1 in
         rw (sym i) (leb-true low s.0.0 b.0, ltb-true s.0.0 end b.1, p.0);
     so = λ bs v rest u e.
-        let s = and_ok (number (whole - length bs) bs) _ (v, rest) e in
+        let s = and_ok (number_read (whole - length bs) bs) _ (v, rest) e in
         let c = cond_ok (leb low s.0.0 && ltb s.0.0 end) s.0 _ (v, rest) s.2 in
         let p = number_spells_back (whole - length bs) bs s.0.0 s.0.1 u s.1 in
         p.1 ∙ ap (λ (x : ℕ × List ℕ). spell x.0 ++ x.1) c.1;
@@ -122,12 +122,12 @@ signed_faithful : (b : Bool) (whole : ℕ) → Faithful (signed_read b whole) (�
 signed_faithful true whole = record {
   back = λ z rest g. rw (number_reads_back (whole - length (spell (zig z) ++ rest)) (zig z) rest (zig_limit z g), zag-zig z);
   good = λ bs z rest u e.
-      let s = and_ok (number (whole - length bs) bs) _ (z, rest) e in
+      let s = and_ok (number_read (whole - length bs) bs) _ (z, rest) e in
       let p = number_spells_back (whole - length bs) bs s.0.0 s.0.1 u s.1 in
       let i : zag s.0.0 ≡ z = pair_0 s.2 in
       rw (sym i) (zag_range s.0.0 p.0);
   so = λ bs z rest u e.
-      let s = and_ok (number (whole - length bs) bs) _ (z, rest) e in
+      let s = and_ok (number_read (whole - length bs) bs) _ (z, rest) e in
       let p = number_spells_back (whole - length bs) bs s.0.0 s.0.1 u s.1 in
       let i : zag s.0.0 ≡ z = pair_0 s.2 in
       let j : s.0.1 ≡ rest = pair_1 s.2 in
@@ -140,11 +140,11 @@ signed_faithful false whole = record {
   so = λ bs z rest u e. pair_1 e;
 }
   where
-    zero-back : (z : ℤ) (rest : List ℕ) → signed_fits false z ≡ true → ◌≡◌ {A = Answer ℤ} (Ok (pos 0, rest)) (Ok (z, rest))
+    zero-back : (z : ℤ) (rest : List ℕ) → signed_fits false z ≡ true → ◌≡◌ {A = Parse ℤ} (Ok (pos 0, rest)) (Ok (z, rest))
     zero-back (pos n) rest g = let h = eqb-true n 0 g in rw h
     zero-back (negsuc n) rest g = let z : false ≡ true = g in absurd (grind arith)
 
--- the largest value of a plain part is a number
+-- the largest value of a plain part is a number_read
 abbrev SmallEnd : Option ℕ → Type 0
 SmallEnd None = Unit {0}
 SmallEnd (Some end) = end ≤ number_limit

@@ -1,4 +1,4 @@
--- Reading and spelling a number undo one another, and which bytes are refused. Assumes nothing.
+-- Reading and spelling a number_read undo one another, and which bytes are refused. Assumes nothing.
 use Rattle.std.proofs.Common.{◌≡◌, ℕ, zero, suc, ◌+◌, ◌*◌, ◌/◌, ◌%◌, ◌^◌, ◌<◌, ◌≤◌, true, false, eqb, leb, List, [], ◌∷◌, ◌++◌, map, length, get_or, take, drop, Ok, Err, sym, refl, ap, ◌∙◌, inl, inr, append_assoc, append-nil, div-add-mod', arith, length-append, ltb-false, ltb-true, le-ltb, lt-ltb, eqb-true, leb-false, leb-true}
 use borrow.Author.Tests.{eqb-false}
 use Rattle.std.proofs.lemmas.Nat.{div_below, mod_below, div-mul-add, mod-mul-add}
@@ -11,8 +11,8 @@ use Rattle.std.specs.Int.Digits.{digits_of as digits, number_from_digits_after, 
 use Rattle.std.specs.List.{AllByRecursion}
 use Rattle.fault.specs.declared.Stop.TheVariants.{CutShort, Misspelt}
 use Rattle.fault.specs.Refusals.{refused_at}
-use Rattle.preset.specs.Answers.{Answer}
-use Rattle.preset.specs.Numbers.{number_limit, most_bytes, spell, tops, value, finished, first, misspelt, number, IsCutShort, Misspelling, leading, long, large, NumberRefusals, NumberReadsBack, NumberSpellsBack}
+use Rattle.preset.specs.Answers.{Parse}
+use Rattle.preset.specs.Numbers.{number_limit, most_bytes, spell, tops, value, finished, first, misspelt, number_read, IsCutShort, Misspelling, leading, long, large, NumberRefusals, NumberReadsBack, NumberSpellsBack}
 use Rattle.preset.proofs.Outcomes.{never}
 use Rattle.preset.proofs.Reading.{number-leading, number-long, number-large, number_cut, number_is}
 
@@ -102,11 +102,11 @@ number_reads_back place v rest small =
     let is = number_is place (hs ++ (r ∷ rest)) led (omega arith) (length hs) t (longer hs r rest) (omega arith) in
     rw append_assoc (is ∙ rw (v-is, drop_last hs r rest))
 
--- the three answers to a number
+-- the three answers to a number_read
 data Outcome (place : ℕ) (bs : List ℕ) : Type 0 where
-  bad : misspelt bs ≡ true → number place bs ≡ Err (refused_at Misspelt place) → Outcome place bs
-  done : misspelt bs ≡ false → finished bs ≡ true → number place bs ≡ Ok (value (first bs), drop (tops bs + 1) bs) → Outcome place bs
-  cut : misspelt bs ≡ false → finished bs ≡ false → number place bs ≡ Err (refused_at CutShort place) → Outcome place bs
+  bad : misspelt bs ≡ true → number_read place bs ≡ Err (refused_at Misspelt place) → Outcome place bs
+  done : misspelt bs ≡ false → finished bs ≡ true → number_read place bs ≡ Ok (value (first bs), drop (tops bs + 1) bs) → Outcome place bs
+  cut : misspelt bs ≡ false → finished bs ≡ false → number_read place bs ≡ Err (refused_at CutShort place) → Outcome place bs
 
 outcome : (place : ℕ) (bs : List ℕ) → Outcome place bs
 outcome place bs =
@@ -145,7 +145,7 @@ digits_after h (d ∷ ds) k u =
     let t = append_assoc (digits 128 h) (d ∷ []) ds in
     cc
 
--- the digits of a number that does not begin with 0
+-- the digits of a number_read that does not begin with 0
 digits_of : (ds : List ℕ) → AllBelowBase 128 ds → (0 < length ds → 0 < get_or ds 0 0) → digits 128 (number_from_digits 128 ds) ≡ ds
 digits_of [] u k = refl
 digits_of (d ∷ ds) u k =
@@ -174,7 +174,7 @@ leads : (hs : List ℕ) (ys : List ℕ) → AllByRecursion Top hs → AllByRecur
 leads [] ys u k n h = h
 leads (b ∷ hs) ys u k n h = omega arith
 
--- bytes that spell a number are its spelling
+-- bytes that spell a number_read are its spelling
 spelt-so : (hs : List ℕ) (r : ℕ) (ys : List ℕ) → AllByRecursion Top hs → AllByRecursion (λ b. b < 256) hs → r < 128 → (get_or (hs ++ ys) 0 0 ≡ 128 → ⊥) → spell (value (hs ++ (r ∷ []))) ≡ hs ++ (r ∷ [])
 spelt-so hs r ys u k h n =
     let ds = map (λ b. b % 128) hs in
@@ -187,19 +187,19 @@ spelt-so hs r ys u k h n =
     let t = tops_are hs u k in
     rw (q, m, d, t)
 
--- bytes that finish a number, taken apart
+-- bytes that finish a number_read, taken apart
 front-is : (bs : List ℕ) → tops bs < length bs → take (tops bs + 1) bs ≡ take (tops bs) bs ++ (get_or bs (tops bs) 0 ∷ [])
 front-is bs h = take_more bs (tops bs) 0 h
 
 apart : (bs : List ℕ) → tops bs < length bs → bs ≡ take (tops bs) bs ++ (get_or bs (tops bs) 0 ∷ drop (tops bs + 1) bs)
 apart bs h = sym (take-append-drop (tops bs) bs) ∙ ap (λ (xs : List ℕ). take (tops bs) bs ++ xs) (drop_more bs (tops bs) 0 h)
 
-code_in : Answer ℕ → ℕ
+code_in : Parse ℕ → ℕ
 code_in (Ok x) = 0
 code_in (Err f) = f.0
 
 -- the two refusals differ
-distinct : {X : Type 0} (place : ℕ) → ◌≡◌ {A = Answer ℕ} (Err (refused_at Misspelt place)) (Err (refused_at CutShort place)) → X
+distinct : {X : Type 0} (place : ℕ) → ◌≡◌ {A = Parse ℕ} (Err (refused_at Misspelt place)) (Err (refused_at CutShort place)) → X
 unfolding code_in
 distinct place e = let z : ◌≡◌ {A = ℕ} 2 1 = ap code_in e in absurd (omega arith)
 
@@ -211,7 +211,7 @@ number_spells_back place bs v rest u e =
       | done m f n ↦
           let w = well bs m in
           let t : tops bs < length bs = ltb-true (tops bs) (length bs) f in
-          let p : ◌≡◌ {A = Answer ℕ} (Ok (value (first bs), drop (tops bs + 1) bs)) (Ok (v, rest)) = sym n ∙ e in
+          let p : ◌≡◌ {A = Parse ℕ} (Ok (value (first bs), drop (tops bs + 1) bs)) (Ok (v, rest)) = sym n ∙ e in
           let pair : ◌≡◌ {A = ℕ × List ℕ} (value (first bs), drop (tops bs + 1) bs) (v, rest) = cc in
           let ev : value (first bs) ≡ v = ap (λ (x : ℕ × List ℕ). x.0) pair in
           let er : drop (tops bs + 1) bs ≡ rest = ap (λ (x : ℕ × List ℕ). x.1) pair in
@@ -224,7 +224,7 @@ number_spells_back place bs v rest u e =
           (omega (arith, w.small f), whole ∙ (sym (append_assoc hs (r ∷ []) (drop (tops bs + 1) bs)) ∙ rw (spelt, er)))
     ]
 
-cut_short_from : (place : ℕ) (bs : List ℕ) → number place bs ≡ Err (refused_at CutShort place) → IsCutShort bs
+cut_short_from : (place : ℕ) (bs : List ℕ) → number_read place bs ≡ Err (refused_at CutShort place) → IsCutShort bs
 cut_short_from place bs e =
     elim (outcome place bs) [
       | bad m n ↦ distinct place (sym n ∙ e)
@@ -236,7 +236,7 @@ cut_short_from place bs e =
           record { unfinished = rw all at (tops_all bs); few = omega (arith, w.few, tops_le bs); first_byte = w.led }
     ]
 
-cut_short_to : (place : ℕ) (bs : List ℕ) → IsCutShort bs → number place bs ≡ Err (refused_at CutShort place)
+cut_short_to : (place : ℕ) (bs : List ℕ) → IsCutShort bs → number_read place bs ≡ Err (refused_at CutShort place)
 cut_short_to place bs c =
     let t : tops bs ≡ length bs = ap tops (sym (append-nil bs)) ∙ (tops-front bs [] c.unfinished ∙ omega arith) in
     let few = c.few in
@@ -246,7 +246,7 @@ leading-is : (bs : List ℕ) → get_or bs 0 0 ≡ 128 → bs ≡ 128 ∷ drop 1
 leading-is [] e = absurd (omega arith)
 leading-is (b ∷ bs) e = ap (λ (x : ℕ). x ∷ bs) e
 
-misspelt_from : (place : ℕ) (bs : List ℕ) → number place bs ≡ Err (refused_at Misspelt place) → Misspelling bs
+misspelt_from : (place : ℕ) (bs : List ℕ) → number_read place bs ≡ Err (refused_at Misspelt place) → Misspelling bs
 misspelt_from place bs e =
     elim (outcome place bs) [
       | done m f n ↦ never (sym e ∙ n)
@@ -269,7 +269,7 @@ misspelt_from place bs e =
           ]
     ]
 
-misspelt_to : (place : ℕ) (bs : List ℕ) → Misspelling bs → number place bs ≡ Err (refused_at Misspelt place)
+misspelt_to : (place : ℕ) (bs : List ℕ) → Misspelling bs → number_read place bs ≡ Err (refused_at Misspelt place)
 misspelt_to place bs (leading rest e) = number-leading place bs (ap (λ (xs : List ℕ). get_or xs 0 0) e)
 misspelt_to place bs (long hs rest e l u) = number-long place bs (omega (arith, ap tops e, tops-front hs rest u))
 misspelt_to place bs (large hs r rest e u h k) =

@@ -20,18 +20,18 @@ use Rattle.preset.specs.Entries.{letter, fits, entry, entry_bytes}
 use Rattle.preset.specs.Fields.{field}
 use Rattle.preset.specs.Items.{sent}
 use Rattle.preset.specs.Laws.{Bytes, PresetReadsBack, PresetWritesBack, OneSpelling, PresetSizes}
-use Rattle.preset.specs.Numbers.{number, number_limit, spell}
-use Rattle.preset.specs.Presets.{Head, Preset, counted, kind_read, head_read, letters_read, entries_read, preset, ended, whole_preset}
+use Rattle.preset.specs.Numbers.{number_read, number_limit, spell}
+use Rattle.preset.specs.Presets.{PresetHead, Preset, item_count, kind_read, head_read, letters_read, entries_read, preset, nothing_after, whole_preset}
 use Rattle.preset.specs.Sizes.{Sized}
 use Rattle.preset.specs.Sound.{Sound}
-use Rattle.preset.specs.Writes.{size_tests, head_checked, fronts, strips_checked, contents_checked, checked, header_numbers, preset_bytes}
+use Rattle.preset.specs.Writes.{size_tests, head_checked, header_fronts, strips_checked, contents_checked, preset_to_write, header_numbers, preset_bytes}
 use Rattle.preset.proofs.Faithful.{bytes_after, field_faithful, entry_faithful, many-back, many_sent}
 use Rattle.preset.proofs.Heads.{letters_few, entries_few, head_done, sizes_pass}
 use Rattle.preset.proofs.NumberLaws.{number_reads_back, number_spells_back}
 use Rattle.preset.proofs.Outcomes.{never, ok-is, and_ok, cond_ok, pair_0, pair_1}
 use Rattle.preset.proofs.Scanning.{preset-is}
 
--- a kind by its number
+-- a kind by its number_read
 kind-number : (n : ℕ) (kind : ChargeKind) → kind_of n ≡ Some kind → number_of kind ≡ n
 kind-number n Voices e = grind (arith, nat_tests)
 kind-number n Pitch e = grind (arith, nat_tests)
@@ -89,29 +89,29 @@ fits_to ok stop i [] u = refl
 fits_to ok stop i (x ∷ xs) u = rw u.0 (fits_to ok stop (i + 1) xs u.1)
 
 -- a header that passed, with the kind that it names
-pub head_from : (h : Header) (head : Head) → head_checked h ≡ Ok head → (head.header ≡ h) × (kind_of h.kind ≡ Some head.kind) × Sized h
+pub head_from : (h : Header) (head : PresetHead) → head_checked h ≡ Ok head → (head.header ≡ h) × (kind_of h.kind ≡ Some head.kind) × Sized h
 head_from h head e =
     let s = and_ok (ok_or (kind_of h.kind) (refused_at UnknownKind 0)) (λ kind. and_then (tested (size_tests h)) (λ _. Ok (record { kind = kind; header = h }))) head e in
     let t = and_ok (tested (size_tests h)) (λ _. Ok (record { kind = s.0; header = h })) head s.2 in
     let i : record { kind = s.0; header = h } ≡ head = ok-is t.2 in
-    (sym (ap (λ (x : Head). x.header) i), ok_or-some (kind_of h.kind) (refused_at UnknownKind 0) s.0 s.1 ∙ ap (λ (x : Head). Some x.kind) i, sized_from h t.1)
+    (sym (ap (λ (x : PresetHead). x.header) i), ok_or-some (kind_of h.kind) (refused_at UnknownKind 0) s.0 s.1 ∙ ap (λ (x : PresetHead). Some x.kind) i, sized_from h t.1)
   where
     ok_or-some : {X : Type 0} (o : Option X) (f : Refusal) (x : X) → ok_or o f ≡ Ok x → o ≡ Some x
     ok_or-some None f x e = never e
     ok_or-some (Some y) f x e = let i : y ≡ x = cc in ap (λ z. Some z) i
 
-pub sound_from : (h : Header) (letters : List ℕ) (entries : List Entry) (p : Preset) → checked h letters entries ≡ Ok p → Sound p
+pub sound_from : (h : Header) (letters : List ℕ) (entries : List Entry) (p : Preset) → preset_to_write h letters entries ≡ Ok p → Sound p
 sound_from h letters entries p e =
     let a = and_ok (head_checked h) _ p e in
     let head = a.0 in
     let b = and_ok (strips_checked head letters entries) _ p a.2 in
     let c = and_ok (contents_checked b.0) (λ _. Ok b.0) p b.2 in
     let f = head_from h head a.1 in
-    let s = cond_ok _ (fronts head letters entries) (refused_at ShortStrip 0) b.0 b.1 in
+    let s = cond_ok _ (header_fronts head letters entries) (refused_at ShortStrip 0) b.0 b.1 in
     let room = and_parts (leb (head.header.q ^ head.header.n) (length letters)) (leb (head.header.q ^ head.header.k) (length entries)) s.0 in
-    let is : fronts head letters entries ≡ p = s.1 ∙ ok-is c.2 in
+    let is : header_fronts head letters entries ≡ p = s.1 ∙ ok-is c.2 in
     let d = and_ok (each_fits (λ x. ltb x b.0.head.header.q) BadLetter 0 b.0.letters) (λ _. each_fits (fits b.0.head.kind) BadEntry 0 b.0.entries) tt c.1 in
-    let g : Sound (fronts head letters entries) = record {
+    let g : Sound (header_fronts head letters entries) = record {
       named = kind-number h.kind head.kind f.1 ∙ ap (λ (x : Header). x.kind) (sym f.0);
       sized = rw f.0 f.2;
       letter_count = length-take-le (head.header.q ^ head.header.n) letters (leb-true _ _ room.0);
@@ -121,7 +121,7 @@ sound_from h letters entries p e =
     } in
     rw (sym is) g
 
-checked_from : (p : Preset) → Sound p → checked p.head.header p.letters p.entries ≡ Ok p
+checked_from : (p : Preset) → Sound p → preset_to_write p.head.header p.letters p.entries ≡ Ok p
 checked_from p g =
     let h = p.head.header in
     let kind : kind_of h.kind ≡ Some p.head.kind = ap kind_of (sym g.named) ∙ number-kind p.head.kind in
@@ -138,7 +138,7 @@ checked_from p g =
 five : (a b c d e tail : List ℕ) → (a ++ (b ++ (c ++ (d ++ (e ++ []))))) ++ tail ≡ a ++ (b ++ (c ++ (d ++ (e ++ tail))))
 five a b c d e tail = simp append_assoc
 
-header-reads : (whole : ℕ) (head : Head) (tail : List ℕ) → number_of head.kind ≡ head.header.kind → Sized head.header
+header-reads : (whole : ℕ) (head : PresetHead) (tail : List ℕ) → number_of head.kind ≡ head.header.kind → Sized head.header
     → head_read whole (sent spell (header_numbers head.header) ++ tail) ≡ Ok (head, tail)
 header-reads whole head tail named s =
     let h = head.header in
@@ -158,7 +158,7 @@ header-reads whole head tail named s =
     let done = head_done whole bs r₁ r₂ r₃ r₄ r₅ head.kind h.kind h.q h.n h.l h.k (sym e₁) (sym e₂) (sym e₃) (sym e₄) (sym e₅) (le-leb (h.q ^ (h.n + h.k - 1)) most_words s.few) (sym named) in
     ap (head_read whole) (five (spell h.kind) (spell h.q) (spell h.n) (spell h.l) (spell h.k) tail) ∙ sym done
 
--- a letter is a small number
+-- a letter is a small number_read
 letter-within : (whole q : ℕ) → q < 9 → (xs : List ℕ) → AllByRecursion (λ x. ltb x q ≡ true) xs → AllByRecursion (λ x. (0 ≤ x) × (x < q) × (x ≤ number_limit)) xs
 letter-within whole q h [] u = tt
 letter-within whole q h (x ∷ xs) u = let k = ltb-true x q u.0 in ((omega arith, k, omega arith), letter-within whole q h xs u.1)
@@ -187,14 +187,14 @@ pub preset_reads_back : PresetReadsBack
 preset_reads_back h letters entries p rest e = sound-reads p rest (sound_from h letters entries p e)
 
 -- What a header that was read is, and the bytes that it was read from.
-record HeaderSent (bs : List ℕ) (head : Head) (tail : List ℕ) : Type 0 where
+record HeaderSent (bs : List ℕ) (head : PresetHead) (tail : List ℕ) : Type 0 where
   named : number_of head.kind ≡ head.header.kind
   sized : Sized head.header
   so : bs ≡ sent spell (header_numbers head.header) ++ tail
 
 kind-so : (whole : ℕ) (bs : List ℕ) (kind : ChargeKind) (rest : List ℕ) → Bytes bs → kind_read whole bs ≡ Ok (kind, rest) → bs ≡ spell (number_of kind) ++ rest
 kind-so whole bs kind rest u e =
-    let s = and_ok (number (whole - length bs) bs) _ (kind, rest) e in
+    let s = and_ok (number_read (whole - length bs) bs) _ (kind, rest) e in
     let p = number_spells_back (whole - length bs) bs s.0.0 s.0.1 u s.1 in
     let n = named-so (kind_of s.0.0) s.0.1 (refused_at UnknownKind (whole - length bs)) s.2 in
     let i = kind-number s.0.0 kind n.0 in
@@ -204,7 +204,7 @@ kind-so whole bs kind rest u e =
     named-so None tail f e = never e
     named-so (Some k) tail f e = let i : k ≡ kind = pair_0 e in (ap (λ (x : ChargeKind). Some x) i, pair_1 e)
 
-header-sent : (whole : ℕ) (bs : List ℕ) (head : Head) (tail : List ℕ) → Bytes bs → head_read whole bs ≡ Ok (head, tail) → HeaderSent bs head tail
+header-sent : (whole : ℕ) (bs : List ℕ) (head : PresetHead) (tail : List ℕ) → Bytes bs → head_read whole bs ≡ Ok (head, tail) → HeaderSent bs head tail
 header-sent whole bs head tail u e =
     let kd = and_ok (kind_read whole bs) _ (head, tail) e in
     let kind = kd.0.0 in
@@ -238,9 +238,9 @@ header-sent whole bs head tail u e =
     let g₅ = f₅.good r₄ h.k r₅ u₄ k.1 in
     sent-head bs r₁ r₂ r₃ r₄ r₅ kind h head tail s₁ s₂ s₃ s₄ s₅ refl
     (record { letters_some = g₂.0; letters_most = omega (arith, g₂.1); window_some = g₃.0; window = omega (arith, g₃.1); reach = g₄.1; width_some = g₅.0; width = omega (arith, g₅.1); few = leb-true (h.q ^ (h.n + h.k - 1)) most_words done.0 })
-    (ap (λ (x : Head × List ℕ). x.0) done.1) (ap (λ (x : Head × List ℕ). x.1) done.1)
+    (ap (λ (x : PresetHead × List ℕ). x.0) done.1) (ap (λ (x : PresetHead × List ℕ). x.1) done.1)
   where
-    sent-head : (bs r₁ r₂ r₃ r₄ r₅ : List ℕ) (kind : ChargeKind) (h : Header) (head : Head) (tail : List ℕ)
+    sent-head : (bs r₁ r₂ r₃ r₄ r₅ : List ℕ) (kind : ChargeKind) (h : Header) (head : PresetHead) (tail : List ℕ)
         → bs ≡ spell h.kind ++ r₁ → r₁ ≡ spell h.q ++ r₂ → r₂ ≡ spell h.n ++ r₃ → r₃ ≡ spell h.l ++ r₄ → r₄ ≡ spell h.k ++ r₅
         → number_of kind ≡ h.kind → Sized h → record { kind = kind; header = h } ≡ head → r₅ ≡ tail → HeaderSent bs head tail
     sent-head bs r₁ r₂ r₃ r₄ r₅ kind h head tail s₁ s₂ s₃ s₄ s₅ named sized i j =
@@ -276,7 +276,7 @@ preset-sent bs p rest u e =
     (record { named = hs.named; sized = hs.sized; letter_count = l.count; entry_count = x.count; letters_fit = within-letter q ls l.good; entries_fit = x.good })
     (pair_0 c.2) (pair_1 c.2)
   where
-    sent_all : (bs r₁ r₂ r₃ : List ℕ) (head : Head) (ls : List ℕ) (es : List Entry) (p : Preset) (rest : List ℕ)
+    sent_all : (bs r₁ r₂ r₃ : List ℕ) (head : PresetHead) (ls : List ℕ) (es : List Entry) (p : Preset) (rest : List ℕ)
         → bs ≡ sent spell (header_numbers head.header) ++ r₁ → r₁ ≡ sent spell ls ++ r₂ → r₂ ≡ sent (entry_bytes head.kind) es ++ r₃
         → Sound (record { head = head; letters = ls; entries = es }) → record { head = head; letters = ls; entries = es } ≡ p → r₃ ≡ rest → PresetSent bs p rest
     sent_all bs r₁ r₂ r₃ head ls es p rest s₁ s₂ s₃ good i j =
@@ -294,18 +294,18 @@ preset_writes_back bs p rest u e = let s = preset-sent bs p rest u e in (checked
 -- a whole preset leaves no bytes
 whole_is : (bs : List ℕ) (p : Preset) → whole_preset bs ≡ Ok p → preset bs ≡ Ok (p, [])
 whole_is bs p e =
-    let a = and_ok (preset bs) (ended (length bs)) p e in
+    let a = and_ok (preset bs) (nothing_after (length bs)) p e in
     let i = ended_so (length bs) a.0.0 a.0.1 a.2 in
     a.1 ∙ ap₂ (λ (x : Preset) (xs : List ℕ). Ok (x, xs)) i.0 i.1
   where
-    ended_so : (whole : ℕ) (x : Preset) (rest : List ℕ) → ended whole (x, rest) ≡ Ok p → (x ≡ p) × (rest ≡ [])
+    ended_so : (whole : ℕ) (x : Preset) (rest : List ℕ) → nothing_after whole (x, rest) ≡ Ok p → (x ≡ p) × (rest ≡ [])
     ended_so whole x [] e = (cc, refl)
     ended_so whole x (b ∷ rest) e = never e
 
 pub whole-sound : (bs : List ℕ) (p : Preset) → Bytes bs → whole_preset bs ≡ Ok p → Sound p
 whole-sound bs p u e = (preset-sent bs p [] u (whole_is bs p e)).good
 
-pub whole-so : (bs : List ℕ) (p : Preset) → Bytes bs → whole_preset bs ≡ Ok p → (checked p.head.header p.letters p.entries ≡ Ok p) × (bs ≡ preset_bytes p)
+pub whole-so : (bs : List ℕ) (p : Preset) → Bytes bs → whole_preset bs ≡ Ok p → (preset_to_write p.head.header p.letters p.entries ≡ Ok p) × (bs ≡ preset_bytes p)
 whole-so bs p u e =
     let s = preset_writes_back bs p [] u (whole_is bs p e) in
     (s.0, s.1 ∙ append-nil (preset_bytes p))
@@ -313,7 +313,7 @@ whole-so bs p u e =
 pub one_spelling : OneSpelling
 one_spelling bs cs p u v e f = (whole-so bs p u e).1 ∙ sym (whole-so cs p v f).1
 
-pub counted-some : (most q m count : ℕ) → 2 ≤ q → q ≤ 8 → 1 ≤ m → m ≤ most → q ^ m ≤ most_words → count ≡ q ^ m → counted most q m ≡ Some count
+pub counted-some : (most q m count : ℕ) → 2 ≤ q → q ≤ 8 → 1 ≤ m → m ≤ most → q ^ m ≤ most_words → count ≡ q ^ m → item_count most q m ≡ Some count
 counted-some most q m count q₁ q₂ m₁ m₂ few e =
     rw (le-leb 1 m m₁, lt-ltb m (suc most) (omega arith), le-leb 2 q q₁, lt-ltb q 9 (omega arith), le-leb (q ^ m) most_words few, e)
 

@@ -6,23 +6,23 @@ use Rattle.fault.specs.declared.Stop.{Stop}
 use Rattle.fault.specs.Refusals.{Refusal, refused_at}
 use Rattle.fault.specs.Checks.{each_fits}
 use Rattle.fault.specs.Answers.{and_then, strip_after}
-use Rattle.preset.specs.Answers.{Answer, many, skipped}
+use Rattle.preset.specs.Answers.{Parse, many, skipped}
 use Rattle.preset.specs.Items.{sent}
 
 -- items before others that are read
-abbrev pub ahead : {X : Type 0} → List X → Answer (List X) → Answer (List X)
+abbrev pub ahead : {X : Type 0} → List X → Parse (List X) → Parse (List X)
 ahead xs s = and_then s (λ p. Ok (xs ++ p.0, p.1))
 
 ok_left : {X Y : Type 0} (s : Result X Refusal) (f : X → Result Y Refusal) → is_ok (and_then s f) ≡ true → is_ok s ≡ true
 ok_left (Ok x) f e = refl
 ok_left (Err r) f e = e
 
-module _ {X : Type 0} (read : List ℕ → Answer X) where
+module _ {X : Type 0} (read : List ℕ → Parse X) where
   -- the turn i of n, whose item is read
   many_more : (n i : ℕ) (bs : List ℕ) (x : X) (tail : List ℕ) → i < n → Ok (x, tail) ≡ read bs → many read (n - i) bs ≡ ahead (x ∷ []) (many read (n - (i + 1)) tail)
   many_more n i bs x tail h e = let k : n - i ≡ suc (n - (i + 1)) = omega arith in rw (k, sym e)
 
-  skipped-ahead : (xs : List X) (s : Answer (List X)) → skipped (ahead xs s) ≡ skipped s
+  skipped-ahead : (xs : List X) (s : Parse (List X)) → skipped (ahead xs s) ≡ skipped s
   skipped-ahead xs (Ok p) = refl
   skipped-ahead xs (Err f) = refl
 
@@ -36,17 +36,17 @@ module _ {X : Type 0} (read : List ℕ → Answer X) where
   pub skipped-all : (n i : ℕ) (bs : List ℕ) → n ≤ i → skipped (many read (n - i) bs) ≡ Ok (tt, bs)
   skipped-all n i bs h = let k : n - i ≡ 0 = omega arith in rw k
 
-  ok-ahead : (xs : List X) (s : Answer (List X)) → is_ok (ahead xs s) ≡ is_ok s
+  ok-ahead : (xs : List X) (s : Parse (List X)) → is_ok (ahead xs s) ≡ is_ok s
   ok-ahead xs (Ok p) = refl
   ok-ahead xs (Err f) = refl
 
-  ahead-ahead : (xs ys : List X) (s : Answer (List X)) → ahead xs (ahead ys s) ≡ ahead (xs ++ ys) s
+  ahead-ahead : (xs ys : List X) (s : Parse (List X)) → ahead xs (ahead ys s) ≡ ahead (xs ++ ys) s
   ahead-ahead xs ys (Ok p) = rw append_assoc
   ahead-ahead xs ys (Err f) = refl
 
   pub ok_more : (n i : ℕ) (bs : List ℕ) (x : X) (tail : List ℕ) → i < n → Ok (x, tail) ≡ read bs → is_ok (many read (n - i) bs) ≡ true → is_ok (many read (n - (i + 1)) tail) ≡ true
   ok_more n i bs x tail h e r =
-      let a = ap (λ (s : Answer (List X)). is_ok s) (many_more n i bs x tail h e) in
+      let a = ap (λ (s : Parse (List X)). is_ok s) (many_more n i bs x tail h e) in
       let b = ok-ahead (x ∷ []) (many read (n - (i + 1)) tail) in
       cc
 
@@ -54,7 +54,7 @@ module _ {X : Type 0} (read : List ℕ → Answer X) where
   ok-first n i bs h r = let k : n - i ≡ suc (n - (i + 1)) = omega arith in ok_left (read bs) _ (rw k at r)
 
   -- one item more at the front of a strip
-  pub ahead_more : (n i : ℕ) (bs : List ℕ) (x : X) (tail : List ℕ) (strip : List X) (all : Answer (List X)) → i < n → n ≤ length strip → Ok (x, tail) ≡ read bs
+  pub ahead_more : (n i : ℕ) (bs : List ℕ) (x : X) (tail : List ℕ) (strip : List X) (all : Parse (List X)) → i < n → n ≤ length strip → Ok (x, tail) ≡ read bs
       → all ≡ ahead (take i strip) (many read (n - i) bs) → all ≡ ahead (take (i + 1) (set strip i x)) (many read (n - (i + 1)) tail)
   ahead_more n i bs x tail strip all h k e a =
       let m = many_more n i bs x tail h e in
@@ -62,7 +62,7 @@ module _ {X : Type 0} (read : List ℕ → Answer X) where
       let t = take_more_set strip i x (omega arith) in
       cc
 
-  pub ahead_all : (n i : ℕ) (bs : List ℕ) (xs was : List X) (all : Answer (List X)) → n ≤ i → length xs ≡ n
+  pub ahead_all : (n i : ℕ) (bs : List ℕ) (xs was : List X) (all : Parse (List X)) → n ≤ i → length xs ≡ n
       → all ≡ ahead (take i xs) (many read (n - i) bs) → xs ++ drop n was ≡ strip_after (λ p. p.0) was all
   ahead_all n i bs xs was all k count a =
       let z : n - i ≡ 0 = omega arith in

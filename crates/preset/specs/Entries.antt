@@ -6,12 +6,12 @@ use Rattle.charge.specs.declared.kind.ChargeKind.TheVariants.{Voices, Pitch, Cha
 use Rattle.charge.specs.Ranges.{voices_range, pitch_end, channel_bits}
 use Rattle.fault.specs.Answers.{and_then}
 use Rattle.preset.specs.declared.entry.Entry.{Entry}
-use Rattle.preset.specs.Answers.{Answer}
+use Rattle.preset.specs.Answers.{Parse}
 use Rattle.preset.specs.Fields.{field}
-use Rattle.preset.specs.Numbers.{number, spell}
+use Rattle.preset.specs.Numbers.{number_read, spell}
 
 -- a letter, which is below q
-abbrev pub letter : ℕ → ℕ → List ℕ → Answer ℕ
+abbrev pub letter : ℕ → ℕ → List ℕ → Parse ℕ
 letter q whole bs = field whole 0 q BadLetter bs
 
 -- a signed value v is sent as 2v from zero up, and as -2v - 1 below; `negsuc n` is -(n + 1)
@@ -19,7 +19,7 @@ abbrev pub zig : ℤ → ℕ
 zig (pos n) = 2 * n
 zig (negsuc n) = 2 * n + 1
 
--- the value that is sent as a number
+-- the value that is sent as a number_read
 abbrev pub zag : ℕ → ℤ
 zag u = cond (u % 2 == 0) (pos (u / 2)) (negsuc (u / 2))
 
@@ -51,23 +51,23 @@ plain_fits (Some end) p = nat_lt p end
 abbrev pub fits : ChargeKind → Entry → Bool
 fits kind e = signed_fits (signed_part kind) e.signed && plain_fits (plain_end kind) e.plain
 
--- a part is read as one number, or none
-abbrev pub signed_read : Bool → ℕ → List ℕ → Answer ℤ
-signed_read true whole bs = and_then (number (whole - length bs) bs) (λ p. Ok (zag p.0, p.1))
+-- a part is read as one number_read, or none
+abbrev pub signed_read : Bool → ℕ → List ℕ → Parse ℤ
+signed_read true whole bs = and_then (number_read (whole - length bs) bs) (λ p. Ok (zag p.0, p.1))
 signed_read false whole bs = Ok (pos 0, bs)
 
-abbrev pub plain_read : Option ℕ → ℕ → List ℕ → Answer ℕ
+abbrev pub plain_read : Option ℕ → ℕ → List ℕ → Parse ℕ
 plain_read None whole bs = Ok (0, bs)
 plain_read (Some end) whole bs = field whole 0 end BadEntry bs
 
 -- the signed part first, then the plain part
-abbrev pub entry : ChargeKind → ℕ → List ℕ → Answer Entry
+abbrev pub entry : ChargeKind → ℕ → List ℕ → Parse Entry
 entry kind whole bs =
     and_then (signed_read (signed_part kind) whole bs) (λ s.
     and_then (plain_read (plain_end kind) whole s.1) (λ p.
     Ok (record { signed = s.0; plain = p.0 }, p.1)))
 
--- a part is sent as one number, or none
+-- a part is sent as one number_read, or none
 abbrev pub signed_number : Bool → ℤ → Option ℕ
 signed_number true z = Some (zig z)
 signed_number false z = None

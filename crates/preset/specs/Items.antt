@@ -4,15 +4,15 @@ use Rattle.std.specs.List.{flat_map}
 use Rattle.fault.specs.declared.Stop.{Stop}
 use Rattle.fault.specs.declared.Stop.TheVariants.{BadLetter, BadEntry}
 use Rattle.preset.specs.declared.entry.Entry.{Entry}
-use Rattle.preset.specs.declared.shape.Shape.{Shape}
-use Rattle.preset.specs.Answers.{Answer}
+use Rattle.preset.specs.declared.item_limits.ItemLimits.{ItemLimits}
+use Rattle.preset.specs.Answers.{Parse}
 use Rattle.preset.specs.Entries.{letter, entry, fits as entry-fits}
 
 -- How items of one sort are read from the last bytes of an input of some length, which are allowed, and the
 -- stop code of the others.
 pub record Format (X : Type 0) : Type 0 where
-  pub reads : Shape → ℕ → List ℕ → Answer X
-  pub fits : Shape → X → Bool
+  pub reads : ItemLimits → ℕ → List ℕ → Parse X
+  pub fits : ItemLimits → X → Bool
   pub stop : Stop
 
 -- the bytes of items, one after another
@@ -21,14 +21,14 @@ sent sends xs = flat_map sends xs
 
 abbrev pub letter_format : Format ℕ
 letter_format = record {
-  reads = λ shape. letter shape.q;
-  fits = λ shape x. nat_lt x shape.q;
+  reads = λ limits. letter limits.q;
+  fits = λ limits x. nat_lt x limits.q;
   stop = BadLetter;
 }
 
 abbrev pub entry_format : Format Entry
 entry_format = record {
-  reads = λ shape. entry shape.kind;
-  fits = λ shape. entry-fits shape.kind;
+  reads = λ limits. entry limits.kind;
+  fits = λ limits. entry-fits limits.kind;
   stop = BadEntry;
 }

@@ -12,5 +12,5 @@ pub mod Scans
 pub mod Sending
 pub mod Sizes
 pub mod Sound
-pub mod Strips
+pub mod PresetStrips
 pub mod Writes

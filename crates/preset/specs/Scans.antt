@@ -1,4 +1,4 @@
--- What is known of a preset once it is checked, before anything is written. Assumes nothing.
+-- What is known of a preset once it is preset_to_write, before anything is written. Assumes nothing.
 use Rattle.std.specs.Prelude.{◌≡◌, ℕ, ◌^◌, ◌≤◌, List, length, Ok}
 use Rattle.preset.specs.declared.entry.Entry.{Entry}
 use Rattle.preset.specs.declared.header.Head.{Head}
@@ -7,7 +7,7 @@ use Rattle.preset.specs.declared.reader.Scan.{Scan}
 use Rattle.preset.specs.Answers.{skipped}
 use Rattle.preset.specs.Heads.{head_of}
 use Rattle.preset.specs.Presets.{head_read, letters_read, entries_read}
-use Rattle.preset.specs.Writes.{checked, fronts}
+use Rattle.preset.specs.Writes.{preset_to_write, header_fronts}
 
 -- the letters, the entries and the rest of an input begin where a scan says, and all letters and entries are there
 pub record Scanned (bs : List ℕ) (s : Scan) : Type 0 where
@@ -19,8 +19,8 @@ pub record Scanned (bs : List ℕ) (s : Scan) : Type 0 where
   pub rest_whole : s.rest.whole ≡ length bs
 
 -- a header and two strips that pass every test but the byte strip's
-pub record Checked (h : Header) (letters : List ℕ) (entries : List Entry) (head : Head) : Type 0 where
-  pub is : checked h letters entries ≡ Ok (fronts (head_of head) letters entries)
+pub record Writable (h : Header) (letters : List ℕ) (entries : List Entry) (head : Head) : Type 0 where
+  pub is : preset_to_write h letters entries ≡ Ok (header_fronts (head_of head) letters entries)
   pub same : head.header ≡ h
   pub letter_room : h.q ^ h.n ≤ length letters
   pub entry_room : h.q ^ h.k ≤ length entries

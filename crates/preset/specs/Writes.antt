@@ -13,7 +13,7 @@ use Rattle.preset.specs.declared.header.Header.{Header}
 use Rattle.preset.specs.Entries.{entry_bytes, fits}
 use Rattle.preset.specs.Items.{sent}
 use Rattle.preset.specs.Numbers.{spell}
-use Rattle.preset.specs.Presets.{Head, Preset}
+use Rattle.preset.specs.Presets.{PresetHead, Preset}
 
 -- what the sizes of a header are held to, in the order of the stop codes
 abbrev pub size_tests : Header → List (Bool × Stop)
@@ -26,20 +26,20 @@ size_tests h =
     ∷ []
 
 -- a header that may be written, with the kind that it names
-abbrev pub head_checked : Header → Result Head Refusal
+abbrev pub head_checked : Header → Result PresetHead Refusal
 head_checked h =
     and_then (ok_or (kind_of h.kind) (refused_at UnknownKind 0)) (λ kind.
     and_then (tested (size_tests h)) (λ _. Ok (record { kind = kind; header = h })))
 
 -- the letters and entries that belong to a header, from the front of strips that may be longer
-abbrev pub fronts : Head → List ℕ → List Entry → Preset
-fronts h letters entries =
+abbrev pub header_fronts : PresetHead → List ℕ → List Entry → Preset
+header_fronts h letters entries =
     record { head = h; letters = take (h.header.q ^ h.header.n) letters; entries = take (h.header.q ^ h.header.k) entries }
 
-abbrev pub strips_checked : Head → List ℕ → List Entry → Result Preset Refusal
+abbrev pub strips_checked : PresetHead → List ℕ → List Entry → Result Preset Refusal
 strips_checked h letters entries =
     cond (nat_le (h.header.q ^ h.header.n) (length letters) && nat_le (h.header.q ^ h.header.k) (length entries))
-    (Ok (fronts h letters entries))
+    (Ok (header_fronts h letters entries))
     (Err (refused_at ShortStrip 0))
 
 -- each letter and each entry of a preset is allowed
@@ -49,8 +49,8 @@ contents_checked p =
     each_fits (fits p.head.kind) BadEntry 0 p.entries)
 
 -- the preset that a header and two strips give, or the first refusal
-abbrev pub checked : Header → List ℕ → List Entry → Result Preset Refusal
-checked h letters entries =
+abbrev pub preset_to_write : Header → List ℕ → List Entry → Result Preset Refusal
+preset_to_write h letters entries =
     and_then (head_checked h) (λ head.
     and_then (strips_checked head letters entries) (λ p.
     and_then (contents_checked p) (λ _. Ok p)))
@@ -63,11 +63,11 @@ abbrev pub preset_bytes : Preset → List ℕ
 preset_bytes p = sent spell (header_numbers p.head.header) ++ (sent spell p.letters ++ sent (entry_bytes p.head.kind) p.entries)
 
 -- Writing to a byte strip, which is tested last: the bytes that stand at its front afterwards, or a refusal.
-abbrev pub fitting : ℕ → List ℕ → Result (List ℕ) Refusal
-fitting room bytes = cond (nat_le (length bytes) room) (Ok bytes) (Err (refused_at ShortStrip 0))
+abbrev pub with_byte_room : ℕ → List ℕ → Result (List ℕ) Refusal
+with_byte_room room bytes = cond (nat_le (length bytes) room) (Ok bytes) (Err (refused_at ShortStrip 0))
 
 abbrev pub writing : Header → List ℕ → List Entry → List ℕ → Result (List ℕ) Refusal
-writing h letters entries out = and_then (checked h letters entries) (λ p. fitting (length out) (preset_bytes p))
+writing h letters entries out = and_then (preset_to_write h letters entries) (λ p. with_byte_room (length out) (preset_bytes p))
 
 -- how many bytes were written
 abbrev pub written : Result (List ℕ) Refusal → Result ℕ Refusal

@@ -1,14 +1,14 @@
 // Entries of a density, as they stand in a preset: a signed and a plain part.
 ghost use Rattle.std.specs.Prelude.{◌≡◌, ◌≤◌, if◌then◌else◌, length, Some, None};
-ghost use Rattle.fault.specs.Answers.{front};
+ghost use Rattle.fault.specs.Answers.{at_front};
 ghost use Rattle.preset.specs.Entries.{signed_part, plain_end, signed_fits, plain_fits, fits, signed_read, plain_read, zig, zag, signed_number, plain_number, part_bytes, entry_bytes};
 ghost use Rattle.preset.specs.Inputs.{Reads};
 ghost use Rattle.preset.specs.Items.{entry_format};
 
 use crate::input::Unread;
-use crate::items::{Encode, Item};
+use crate::items::{Encode, PresetItem};
 use crate::number::{put_number, spelt_len};
-use crate::shape::Shape;
+use crate::item_limits::ItemLimits;
 use charge::{CHANNEL_SETS, ChargeKind, LEAST_VOICES, MOST_VOICES, PITCH_CLASSES};
 use fault::{Fault, Stop};
 
@@ -140,7 +140,7 @@ fn part_len(part: Option<u64>) -> usize
 fn put_part(part: Option<u64>, out: &mut [u8]) -> usize
     requires { length (part_bytes part) ≤ length out.old }
     ensures count { result ≡ length (part_bytes part) }
-    ensures strip { out.new ≡ front (part_bytes part) out.old }
+    ensures strip { out.new ≡ at_front (part_bytes part) out.old }
 {
     match part {
         None => 0,
@@ -148,17 +148,17 @@ fn put_part(part: Option<u64>, out: &mut [u8]) -> usize
     }
 }
 
-impl Item for Entry {
+impl PresetItem for Entry {
     ghost format = { entry_format };
 
-    fn read(shape: Shape, input: &mut Unread<'_>) -> Result<Entry, Fault> {
-        let signed = read_signed(shape.kind, input)?;
-        let plain = read_plain(shape.kind, input)?;
+    fn read(limits: ItemLimits, input: &mut Unread<'_>) -> Result<Entry, Fault> {
+        let signed = read_signed(limits.kind, input)?;
+        let plain = read_plain(limits.kind, input)?;
         Ok(Entry { signed, plain })
     }
 
-    fn fits(self, shape: Shape) -> bool {
-        is_allowed(shape.kind, self)
+    fn fits(self, limits: ItemLimits) -> bool {
+        is_allowed(limits.kind, self)
     }
 
     fn stop() -> Stop {
@@ -167,14 +167,14 @@ impl Item for Entry {
 }
 
 impl Encode for Entry {
-    ghost bytes = { λ shape e. entry_bytes shape.kind e };
+    ghost bytes = { λ limits e. entry_bytes limits.kind e };
 
-    fn len(self, shape: Shape) -> usize {
-        part_len(signed_number(shape.kind, self)) + part_len(plain_number(shape.kind, self))
+    fn len(self, limits: ItemLimits) -> usize {
+        part_len(signed_number(limits.kind, self)) + part_len(plain_number(limits.kind, self))
     }
 
-    fn put(self, shape: Shape, out: &mut [u8]) -> usize {
-        let signed = put_part(signed_number(shape.kind, self), out);
-        signed + put_part(plain_number(shape.kind, self), &mut out[signed..])
+    fn put(self, limits: ItemLimits, out: &mut [u8]) -> usize {
+        let signed = put_part(signed_number(limits.kind, self), out);
+        signed + put_part(plain_number(limits.kind, self), &mut out[signed..])
     }
 }

@@ -1,11 +1,11 @@
 // The five numbers that a preset begins with.
 ghost use Rattle.std.specs.Prelude.{◌≡◌};
 ghost use Rattle.fault.specs.Limits.{most_window, most_width};
-ghost use Rattle.preset.specs.Presets.{counted};
+ghost use Rattle.preset.specs.Presets.{item_count};
 ghost use Rattle.preset.specs.Sizes.{Sized};
 
 use crate::input::Unread;
-use crate::shape::Shape;
+use crate::item_limits::ItemLimits;
 use charge::ChargeKind;
 use fault::limits::{LEAST_LETTERS, MOST_LETTERS, MOST_WIDTH, MOST_WINDOW, word_count};
 use fault::{Fault, Stop};
@@ -25,22 +25,22 @@ pub struct Header {
 impl Header {
     // How many letters the rule has, where the alphabet size and the window are in range and the words are few.
     pub fn letter_count(self) -> Option<usize>
-        ensures { result ≡ counted most_window self.q self.n }
+        ensures { result ≡ item_count most_window self.q self.n }
     {
-        counted_words(MOST_WINDOW, self.q, self.n)
+        item_count(MOST_WINDOW, self.q, self.n)
     }
 
     // How many entries the density has, where the alphabet size and the width are in range and the words are few.
     pub fn entry_count(self) -> Option<usize>
-        ensures { result ≡ counted most_width self.q self.k }
+        ensures { result ≡ item_count most_width self.q self.k }
     {
-        counted_words(MOST_WIDTH, self.q, self.k)
+        item_count(MOST_WIDTH, self.q, self.k)
     }
 }
 
 // How many words of m letters there are, where m is from 1 to `most`.
-fn counted_words(most: u64, q: u64, m: u64) -> Option<usize>
-    ensures { result ≡ counted most q m }
+fn item_count(most: u64, q: u64, m: u64) -> Option<usize>
+    ensures { result ≡ item_count most q m }
 {
     if m < 1 || m > most {
         return None;
@@ -85,10 +85,10 @@ impl Head {
     }
 
     // What the letters and the entries after the header are held to.
-    pub(crate) fn shape(self) -> Shape
+    pub(crate) fn limits(self) -> ItemLimits
         ensures { (result.kind ≡ self.kind) × (result.q ≡ self.header.q) }
     {
-        Shape {
+        ItemLimits {
             kind: self.kind,
             q: self.header.q as u8,
         }

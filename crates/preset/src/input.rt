@@ -24,7 +24,7 @@ pub(crate) struct Unread<'a> {
 impl<'a> Unread<'a> {
     ghost use Rattle.preset.specs.Fields.{field};
     ghost use Rattle.preset.specs.Inputs.{Reads};
-    ghost use Rattle.preset.specs.Numbers.{number as numeral};
+    ghost use Rattle.preset.specs.Numbers.{number_read};
     ghost use Rattle.preset.specs.Presets.{kind_read};
 
     // An input of which nothing has been read.
@@ -47,7 +47,7 @@ impl<'a> Unread<'a> {
 
     // Reads a number.
     pub(crate) fn number(&mut self) -> Result<u64, Fault>
-        ensures { Reads self.old self.new result (λ whole bs. numeral (whole - length bs) bs) }
+        ensures { Reads self.old self.new result (λ whole bs. number_read (whole - length bs) bs) }
     {
         let (number, rest) = read_number(self.bytes, self.place())?;
         self.bytes = rest;

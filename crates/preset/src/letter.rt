@@ -3,20 +3,20 @@ ghost use Rattle.preset.specs.Items.{letter_format};
 ghost use Rattle.preset.specs.Numbers.{spell};
 
 use crate::input::Unread;
-use crate::items::{Encode, Item};
+use crate::items::{Encode, PresetItem};
 use crate::number::{put_number, spelt_len};
-use crate::shape::Shape;
+use crate::item_limits::ItemLimits;
 use fault::{Fault, Stop};
 
-impl Item for u8 {
+impl PresetItem for u8 {
     ghost format = { letter_format };
 
-    fn read(shape: Shape, input: &mut Unread<'_>) -> Result<u8, Fault> {
-        Ok(input.field(0, shape.q as u64, Stop::BadLetter)? as u8)
+    fn read(limits: ItemLimits, input: &mut Unread<'_>) -> Result<u8, Fault> {
+        Ok(input.field(0, limits.q as u64, Stop::BadLetter)? as u8)
     }
 
-    fn fits(self, shape: Shape) -> bool {
-        self < shape.q
+    fn fits(self, limits: ItemLimits) -> bool {
+        self < limits.q
     }
 
     fn stop() -> Stop {
@@ -27,11 +27,11 @@ impl Item for u8 {
 impl Encode for u8 {
     ghost bytes = { λ _ x. spell x };
 
-    fn len(self, _shape: Shape) -> usize {
+    fn len(self, _shape: ItemLimits) -> usize {
         spelt_len(self as u64)
     }
 
-    fn put(self, _shape: Shape, out: &mut [u8]) -> usize {
+    fn put(self, _shape: ItemLimits, out: &mut [u8]) -> usize {
         put_number(self as u64, out)
     }
 }

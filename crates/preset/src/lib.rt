@@ -13,8 +13,8 @@ mod loaded;
 mod number;
 mod reader;
 mod sent;
-mod shape;
-mod strips;
+mod item_limits;
+mod preset_strips;
 mod writer;
 
 pub use entry::Entry;
@@ -23,5 +23,5 @@ pub use loaded::Loaded;
 pub use number::{MOST_NUMBER, read_number};
 pub use reader::{STRIP, read_preset, read_whole};
 pub use sent::Sent;
-pub use strips::Strips;
+pub use preset_strips::PresetStrips;
 pub use writer::write_preset;

@@ -4,7 +4,7 @@ ghost use Rattle.preset.specs.Sound.{Sound};
 
 use crate::entry::Entry;
 use crate::header::{Head, Header};
-use crate::shape::Shape;
+use crate::item_limits::ItemLimits;
 use charge::ChargeKind;
 
 // The kind and the sizes, with the letters and the entries that they ask for, each of which is allowed.
@@ -25,12 +25,12 @@ impl<'a> Loaded<'a> {
     ghost use Rattle.std.specs.Prelude.{◌≡◌};
     ghost use Rattle.preset.specs.Heads.{head_of};
     ghost use Rattle.preset.specs.Loads.{preset_of};
-    ghost use Rattle.preset.specs.Writes.{fronts};
+    ghost use Rattle.preset.specs.Writes.{header_fronts};
 
     // The preset of a header that has passed and of the fronts of two strips.
-    pub(crate) fn front(head: Head, letters: &'a [u8], entries: &'a [Entry]) -> Loaded<'a>
-        requires { Sound (fronts (head_of head) letters.now entries.now) }
-        ensures { preset_of result ≡ fronts (head_of head) letters.now entries.now }
+    pub(crate) fn from_fronts(head: Head, letters: &'a [u8], entries: &'a [Entry]) -> Loaded<'a>
+        requires { Sound (header_fronts (head_of head) letters.now entries.now) }
+        ensures { preset_of result ≡ header_fronts (head_of head) letters.now entries.now }
     {
         Loaded {
             kind: head.kind,
@@ -41,13 +41,13 @@ impl<'a> Loaded<'a> {
     }
 
     // What the letters and the entries are held to.
-    pub(crate) fn shape(&self) -> Shape
+    pub(crate) fn limits(&self) -> ItemLimits
         ensures { result.kind ≡ self.now.kind }
     {
         let head = Head {
             kind: self.kind,
             header: self.header,
         };
-        head.shape()
+        head.limits()
     }
 }

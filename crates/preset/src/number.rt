@@ -1,11 +1,11 @@
 // Numbers: groups of seven bits, the highest first, each but the last in a byte with its top bit set.
 ghost use Rattle.std.specs.Prelude.{◌≡◌, ◌<◌, ◌≤◌, length, IfOk, nat_lt};
-ghost use Rattle.fault.specs.Answers.{front};
-ghost use Rattle.preset.specs.Answers.{seen};
-ghost use Rattle.preset.specs.Numbers.{number as numeral, spell, high_bytes, NumberRefusals, NumberSpellsBack};
+ghost use Rattle.fault.specs.Answers.{at_front};
+ghost use Rattle.preset.specs.Answers.{parse_seen};
+ghost use Rattle.preset.specs.Numbers.{number_read, spell, high_bytes, NumberRefusals, NumberSpellsBack};
 
 use crate::items::Encode;
-use crate::shape::Shape;
+use crate::item_limits::ItemLimits;
 use fault::{Fault, Stop};
 
 // The largest number.
@@ -23,7 +23,7 @@ fn ends_number(byte: u8) -> bool
 
 // The number at the front of the input, and the bytes after it. The input stands at a place of a larger one.
 pub fn read_number(input: &[u8], place: usize) -> Result<(u64, &[u8]), Fault>
-    ensures answer { seen result ≡ numeral place input.now }
+    ensures answer { parse_seen result ≡ number_read place input.now }
     ensures rest { IfOk result (λ p. length p.1.now < length input.now) }
     ensures refusals { NumberRefusals }
     ensures spells_back { NumberSpellsBack }
@@ -62,7 +62,7 @@ pub(crate) fn spelt_len(value: u64) -> usize
 fn put_high(high: u64, out: &mut [u8]) -> usize
     requires { length (high_bytes high) ≤ length out.old }
     ensures count { result ≡ length (high_bytes high) }
-    ensures strip { out.new ≡ front (high_bytes high) out.old }
+    ensures strip { out.new ≡ at_front (high_bytes high) out.old }
 {
     if high == 0 {
         return 0;
@@ -76,7 +76,7 @@ fn put_high(high: u64, out: &mut [u8]) -> usize
 pub(crate) fn put_number(value: u64, out: &mut [u8]) -> usize
     requires { length (spell value) ≤ length out.old }
     ensures count { result ≡ length (spell value) }
-    ensures strip { out.new ≡ front (spell value) out.old }
+    ensures strip { out.new ≡ at_front (spell value) out.old }
 {
     let last = put_high(value / 128, out);
     out[last] = (value % 128) as u8;
@@ -86,11 +86,11 @@ pub(crate) fn put_number(value: u64, out: &mut [u8]) -> usize
 impl Encode for u64 {
     ghost bytes = { λ _ v. spell v };
 
-    fn len(self, _shape: Shape) -> usize {
+    fn len(self, _shape: ItemLimits) -> usize {
         spelt_len(self)
     }
 
-    fn put(self, _shape: Shape, out: &mut [u8]) -> usize {
+    fn put(self, _shape: ItemLimits, out: &mut [u8]) -> usize {
         put_number(self, out)
     }
 }

@@ -5,9 +5,9 @@ ghost use Rattle.fault.specs.Refusals.{refusal, refused_at};
 ghost use Rattle.fault.specs.declared.Stop.TheVariants.{SurplusBytes};
 ghost use Rattle.fault.specs.Answers.{plainly, and_then, strip_after};
 ghost use Rattle.preset.specs.Heads.{heads};
-ghost use Rattle.preset.specs.Answers.{seen};
+ghost use Rattle.preset.specs.Answers.{parse_seen};
 ghost use Rattle.preset.specs.Laws.{PresetWritesBack, OneSpelling, PresetSizes};
-ghost use Rattle.preset.specs.Presets.{preset as preset-at, with_room, reading, whole_reading, header_of, header_and_rest};
+ghost use Rattle.preset.specs.Presets.{preset as preset-at, with_strip_room, reading, whole_reading, header_of, header_and_rest};
 ghost use Rattle.preset.specs.Scans.{Scanned};
 
 use crate::entry::Entry;
@@ -35,11 +35,11 @@ fn find_parts(input: &[u8]) -> Result<Scan<'_>, Fault>
 {
     let mut rest = Unread::new(input);
     let head = Head::read(&mut rest)?;
-    let shape = head.shape();
+    let limits = head.limits();
     let letters = rest;
-    skip::<u8>(shape, &mut rest, head.letter_count())?;
+    skip::<u8>(limits, &mut rest, head.letter_count())?;
     let entries = rest;
-    skip::<Entry>(shape, &mut rest, head.entry_count())?;
+    skip::<Entry>(limits, &mut rest, head.entry_count())?;
     Ok(Scan {
         head,
         letters,
@@ -52,7 +52,7 @@ fn find_parts(input: &[u8]) -> Result<Scan<'_>, Fault>
 fn find_parts_for(input: &[u8], letters: usize, entries: usize) -> Result<Scan<'_>, Fault>
     ensures { MatchResult result
         (λ s. Scanned input.now s × (most_words ≤ letters) × (most_words ≤ entries))
-        (λ f. with_room letters entries (preset-at input.now) ≡ Err (refusal f)) }
+        (λ f. with_strip_room letters entries (preset-at input.now) ≡ Err (refusal f)) }
 {
     Stop::ShortStrip.unless(STRIP <= letters && STRIP <= entries)?;
     find_parts(input)
@@ -68,19 +68,19 @@ fn fill_strips(input: &[u8], scan: Scan, letters: &mut [u8], entries: &mut [Entr
     ensures entries { entries.new
         ≡ strip_after (λ p. p.0.entries) entries.old (preset-at input.now) }
 {
-    let shape = scan.head.shape();
-    fill::<u8>(shape, scan.letters, letters, scan.head.letter_count());
-    fill::<Entry>(shape, scan.entries, entries, scan.head.entry_count());
+    let limits = scan.head.limits();
+    fill::<u8>(limits, scan.letters, letters, scan.head.letter_count());
+    fill::<Entry>(limits, scan.entries, entries, scan.head.entry_count());
 }
 
 // The preset at the front of the input goes to the front of the strips, and the bytes after it are handed on. The strips
-// are the caller's, of any length, so they are no `Strips`.
+// are the caller's, of any length, so they are no `PresetStrips`.
 pub fn read_preset<'a>(
     input: &'a [u8],
     letters: &mut [u8],
     entries: &mut [Entry],
 ) -> Result<(Header, &'a [u8]), Fault>
-    ensures answer { seen result ≡ header_and_rest (reading letters.old entries.old input.now) }
+    ensures answer { parse_seen result ≡ header_and_rest (reading letters.old entries.old input.now) }
     ensures letters { let read = reading letters.old entries.old input.now in
         letters.new ≡ strip_after (λ p. p.0.letters) letters.old read }
     ensures entries { let read = reading letters.old entries.old input.now in

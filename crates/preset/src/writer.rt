@@ -1,15 +1,15 @@
 // Presets written as bytes from lent strips.
 ghost use Rattle.std.specs.Prelude.{◌≡◌, ◌≤◌, length, Err, MatchResult, OnOk};
 ghost use Rattle.fault.specs.Refusals.{refusal};
-ghost use Rattle.fault.specs.Answers.{plainly, front, strip_after};
+ghost use Rattle.fault.specs.Answers.{plainly, at_front, strip_after};
 ghost use Rattle.fault.specs.Checks.{tested};
 ghost use Rattle.preset.specs.Heads.{head_of, heads};
 ghost use Rattle.preset.specs.Laws.{PresetReadsBack};
 ghost use Rattle.preset.specs.Loads.{loaded, preset_of};
 ghost use Rattle.preset.specs.Numbers.{NumberReadsBack};
-ghost use Rattle.preset.specs.Scans.{Checked};
+ghost use Rattle.preset.specs.Scans.{Writable};
 ghost use Rattle.preset.specs.Sizes.{Sized};
-ghost use Rattle.preset.specs.Writes.{size_tests, head_checked, header_numbers, contents_checked, checked, preset_bytes, writing, written};
+ghost use Rattle.preset.specs.Writes.{size_tests, head_checked, header_numbers, contents_checked, preset_to_write, preset_bytes, writing, written};
 
 use crate::entry::Entry;
 use crate::header::{Head, Header};
@@ -53,16 +53,16 @@ fn check_contents(head: Head, letters: &[u8], entries: &[Entry]) -> Result<(), F
         ≡ contents_checked
         (record { head = head_of head; letters = letters.now; entries = entries.now }) }
 {
-    let shape = head.shape();
-    check::<u8>(shape, letters)?;
-    check::<Entry>(shape, entries)
+    let limits = head.limits();
+    check::<u8>(limits, letters)?;
+    check::<Entry>(limits, entries)
 }
 
 // Every test but the byte strip's.
 fn check_preset(header: Header, letters: &[u8], entries: &[Entry]) -> Result<Head, Fault>
     ensures { MatchResult result
-        (Checked header letters.now entries.now)
-        (λ f. checked header letters.now entries.now ≡ Err (refusal f)) }
+        (Writable header letters.now entries.now)
+        (λ f. preset_to_write header letters.now entries.now ≡ Err (refusal f)) }
 {
     let head = check_head(header)?;
     let letter_count = head.letter_count();
@@ -76,34 +76,34 @@ fn check_preset(header: Header, letters: &[u8], entries: &[Entry]) -> Result<Hea
 
 // The preset of a header and of the fronts of two strips.
 fn load<'a>(header: Header, letters: &'a [u8], entries: &'a [Entry]) -> Result<Loaded<'a>, Fault>
-    ensures { loaded result ≡ checked header letters.now entries.now }
+    ensures { loaded result ≡ preset_to_write header letters.now entries.now }
 {
     let head = check_preset(header, letters, entries)?;
-    Ok(Loaded::front(head, letters, entries))
+    Ok(Loaded::from_fronts(head, letters, entries))
 }
 
 // How many bytes a preset takes.
 fn preset_len(preset: &Loaded<'_>) -> usize
     ensures { result ≡ length (preset_bytes (preset_of preset.now)) }
 {
-    let shape = preset.shape();
+    let limits = preset.limits();
     let numbers = header_numbers(preset.header);
-    total_len::<u64>(shape, &numbers)
-        + total_len::<u8>(shape, preset.letters)
-        + total_len::<Entry>(shape, preset.entries)
+    total_len::<u64>(limits, &numbers)
+        + total_len::<u8>(limits, preset.letters)
+        + total_len::<Entry>(limits, preset.entries)
 }
 
 // Writes a preset to the front of the strip, where there is room, and answers how many bytes it takes.
 fn put_preset(preset: &Loaded<'_>, out: &mut [u8]) -> usize
     requires { length (preset_bytes (preset_of preset.now)) ≤ length out.old }
     ensures count { result ≡ length (preset_bytes (preset_of preset.now)) }
-    ensures strip { out.new ≡ front (preset_bytes (preset_of preset.now)) out.old }
+    ensures strip { out.new ≡ at_front (preset_bytes (preset_of preset.now)) out.old }
 {
-    let shape = preset.shape();
+    let limits = preset.limits();
     let numbers = header_numbers(preset.header);
-    let header = put_all::<u64>(shape, &numbers, out);
-    let letters = header + put_all::<u8>(shape, preset.letters, &mut out[header..]);
-    letters + put_all::<Entry>(shape, preset.entries, &mut out[letters..])
+    let header = put_all::<u64>(limits, &numbers, out);
+    let letters = header + put_all::<u8>(limits, preset.letters, &mut out[header..]);
+    letters + put_all::<Entry>(limits, preset.entries, &mut out[letters..])
 }
 
 // Writes a preset to the front of the byte strip and answers how many bytes it takes. Of strips that are longer

@@ -2,14 +2,14 @@
 use Rattle.std.specs.Prelude.{◌≡◌, ℕ, ◌^◌, List, Some, None, Ok, Err, Option, Result}
 use Rattle.std.specs.Option.{option_map}
 use Rattle.fault.specs.declared.Fault.{Fault}
-use Rattle.fault.specs.Answers.{and_then, front}
+use Rattle.fault.specs.Answers.{and_then, at_front}
 use Rattle.fault.specs.Refusals.{Refusal}
 use Rattle.charge.specs.Groups.{Kind}
-use Rattle.automaton.specs.Making.{table_rule, table_density, rule_making, table_making, done}
+use Rattle.automaton.specs.Making.{table_rule, table_density, rule_making, table_making, passes}
 use Rattle.automaton.specs.Meanings.{Local, Weights}
 use Rattle.criterion.specs.Answers.{ring_written, unless_refused}
 use Rattle.criterion.specs.Search.{padding, crossings}
-use Rattle.criterion.specs.Strips.{FrontMeans}
+use Rattle.criterion.specs.ChargeStrips.{FrontMeans}
 use Rattle.preset.specs.declared.entry.Entry.{Entry}
 use Rattle.preset.specs.declared.header.Header.{Header}
 use Rattle.preset.specs.Sending.{Sending}
@@ -30,7 +30,7 @@ pub record Finds {C : Type 0} (K : Kind C) (label : Weights K.group.Carrier) (fi
     (found : Result (Option (ℕ × List ℕ)) Refusal) (old new : List C) (strip ring : List ℕ) (answer : Result (Option (Break C)) Fault) : Type 0 where
   pub is : FoundIs K first second Right found answer
   pub crossed : FrontMeans K (unless_refused found (crossings K padding label)) old new
-  pub shown : ring ≡ front (ring_written found) strip
+  pub shown : ring ≡ at_front (ring_written found) strip
 
 -- for a rule under a density
 abbrev pub JudgeFinds : {C : Type 0} {K : Kind C} → Bench K → Found → Lent C → Lent C → Result (Option (Break C)) Fault → Type 0
@@ -48,16 +48,16 @@ abbrev pub preset_bench : {C : Type 0} → (K : Kind C) → Header → List ℕ 
 preset_bench K h letters charges = bench_of K (preset_rule h letters) (preset_density K h charges)
 
 -- the tests that the bench of a preset passes
-abbrev pub preset_checked : {C : Type 0} → Kind C → Header → List ℕ → List C → Result (Unit {0}) Refusal
-preset_checked K h letters charges =
-    and_then (done (rule_making h.q h.n h.l (h.q ^ h.n) letters)) (λ _.
-    and_then (done (table_making K h.q h.k charges)) (λ _.
+abbrev pub bench_checked_of : {C : Type 0} → Kind C → Header → List ℕ → List C → Result (Unit {0}) Refusal
+bench_checked_of K h letters charges =
+    and_then (passes (rule_making h.q h.n h.l (h.q ^ h.n) letters)) (λ _.
+    and_then (passes (table_making K h.q h.k charges)) (λ _.
     bench_checked (preset_bench K h letters charges)))
 
 -- what judging finds on strips of some lengths, once the bench is made
 abbrev pub preset_found : {C : Type 0} → Kind C → Header → List ℕ → List C → ℕ → ℕ → Result (Option (ℕ × List ℕ)) Refusal
 preset_found K h letters charges crossing_room ring_room =
-    and_then (preset_checked K h letters charges) (λ _. judge_found (preset_bench K h letters charges) crossing_room ring_room)
+    and_then (bench_checked_of K h letters charges) (λ _. judge_found (preset_bench K h letters charges) crossing_room ring_room)
 
 -- a break with its totals as entries, and what was found likewise
 abbrev pub sent_break : {C : Type 0} → Sending C → Break C → Break Entry

@@ -2,7 +2,7 @@
 ghost use Rattle.std.specs.Prelude.{◌≡◌, Ok, Err, MatchResult};
 ghost use Rattle.fault.specs.Refusals.{refusal};
 ghost use Rattle.bench.specs.States.{draft_bench};
-ghost use Rattle.preset_bench.specs.Finds.{preset_rule, preset_density, preset_checked};
+ghost use Rattle.preset_bench.specs.Finds.{preset_rule, preset_density, bench_checked_of};
 
 use automaton::{TableDensity, TableRule};
 use bench::Draft;
@@ -17,7 +17,7 @@ pub fn draft<'a, C: Charge>(
 ) -> Result<Draft<C, TableRule<'a>, TableDensity<'a, C>>, Fault>
     ensures { let h = preset.entry.header in
         let letters = preset.entry.letters.now in
-        let checked = preset_checked C.kind h letters charges.now in
+        let checked = bench_checked_of C.kind h letters charges.now in
         MatchResult result
         (λ d. (checked ≡ Ok tt)
         × ((draft_bench d).rule ≡ preset_rule h letters)

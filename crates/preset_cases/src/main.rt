@@ -13,20 +13,20 @@ use std::io::{BufRead, BufReader, BufWriter, Write};
 
 // The strips that every preset is read into.
 #[derive(Drop)]
-struct Strips {
+struct InputStrips {
     letters: Vec<u8>,
     entries: Vec<Entry>,
     bytes: Vec<u8>,
 }
 
-fn new_strips(alloc: Global) -> Result<Strips, AllocError> {
+fn new_strips(alloc: Global) -> Result<InputStrips, AllocError> {
     let letters = vec![in alloc; 0u8; STRIP]?;
     let entries = vec![in alloc; Entry {
         signed: 0,
         plain: 0
     }; STRIP]?;
     let bytes = vec![in alloc; 0u8; 65536]?;
-    Ok(Strips {
+    Ok(InputStrips {
         letters,
         entries,
         bytes,
@@ -73,7 +73,7 @@ fn write_fault<W: Write>(out: &mut W, fault: Fault) -> io::Result<()> {
 fn write_contents<W: Write>(
     out: &mut W,
     header: Header,
-    strips: &mut Strips,
+    strips: &mut InputStrips,
     input: &[u8],
 ) -> io::Result<()> {
     let Header { kind, q, n, l, k } = header;
@@ -93,7 +93,7 @@ fn write_contents<W: Write>(
     write!(out, " {word}")
 }
 
-fn write_case<W: Write>(out: &mut W, strips: &mut Strips, input: &[u8]) -> io::Result<()> {
+fn write_case<W: Write>(out: &mut W, strips: &mut InputStrips, input: &[u8]) -> io::Result<()> {
     match read_whole(input, &mut strips.letters, &mut strips.entries) {
         Ok(_) => write!(out, "ok ")?,
         Err(fault) => {

@@ -11,21 +11,21 @@ use Rattle.console.specs.declared.failure.ShowError.TheVariants.{Refused}
 use Rattle.bench.specs.declared.state.Break.{Break}
 use Rattle.bench.specs.Benches.{label_of, total_before, total_after, crossings_of}
 use Rattle.bench.specs.Verdicts.{lent}
-use Rattle.report.specs.declared.line.Line.{Line}
+use Rattle.report.specs.declared.report_line.ReportLine.{ReportLine}
 use Rattle.preset_bench.proofs.Counts.{count-is}
 use Rattle.preset_bench.specs.Finds.{JudgeFinds, preset_bench, preset_found}
 use Rattle.report.specs.Finds.{answer_good}
-use Rattle.report.specs.Lines.{LineIs}
-use Rattle.report.specs.Reports.{ToldCrossings, crossing_shape}
-use Rattle.report.specs.Texts.{Shape, row_text, rows_text}
+use Rattle.report.specs.ReportLines.{LineIs}
+use Rattle.report.specs.Reports.{ToldCrossings, crossing_notation}
+use Rattle.report.specs.Texts.{Notation, row_text, rows_text}
 
 pub page-told : {C : Type 0} (K : Kind C) (S : Sending C) (room cells : ℕ) (h : Header) (letters : List ℕ) (charges old new : List C) (strip ring : List ℕ) (o : Option (Break C))
     → JudgeFinds (preset_bench K h letters charges) (preset_found K h letters charges room cells) (lent old strip) (lent new ring) (Ok o)
-    → (shape : Shape) → shape ≡ crossing_shape S.named h → (l : Line) → LineIs (rows_text (λ i x. row_text shape i (S.entry x)) 0 (take (shape.q ^ shape.m) new)) (answer_good o) l
+    → (notation : Notation) → notation ≡ crossing_notation S.named h → (l : ReportLine) → LineIs (rows_text (λ i x. row_text notation i (S.entry x)) 0 (take (notation.q ^ notation.m) new)) (answer_good o) l
     → ToldCrossings K S room cells h letters charges (Ok l)
-page-told K S room cells h letters charges old new strip ring o finds shape same l is =
+page-told K S room cells h letters charges old new strip ring o finds notation same l is =
     let b = preset_bench K h letters charges in
-    let to = crossing_shape S.named h in
+    let to = crossing_notation S.named h in
     let found = preset_found K h letters charges room cells in
     let count = count-is K (label_of b) (total_before b) (total_after b) found o finds.is.said in
     record {
@@ -34,7 +34,7 @@ page-told K S room cells h letters charges old new strip ring o finds shape same
       crossed = take (to.q ^ to.m) new;
       meant = ap (λ (n : ℕ). map K.means (take n new)) (sym count) ∙ finds.crossed.0;
       page = record {
-        text_is = is.text_is ∙ ap (λ (s : Shape). rows_text (λ i x. row_text s i (S.entry x)) 0 (take (s.q ^ s.m) new)) same;
+        text_is = is.text_is ∙ ap (λ (s : Notation). rows_text (λ i x. row_text s i (S.entry x)) 0 (take (s.q ^ s.m) new)) same;
         good_is = is.good_is;
       };
     }

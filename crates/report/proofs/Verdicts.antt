@@ -3,7 +3,7 @@ use Rattle.std.proofs.Common.{◌≡◌, ℕ, List, length, take, drop, Some, No
 use Rattle.std.proofs.lemmas.List.{take_at, take_all}
 use Rattle.std.specs.Option.{option_map}
 use Rattle.fault.specs.declared.Fault.{Fault}
-use Rattle.fault.specs.Answers.{and_then, front}
+use Rattle.fault.specs.Answers.{and_then, at_front}
 use Rattle.fault.specs.Refusals.{Refusal}
 use Rattle.charge.specs.Groups.{Kind}
 use Rattle.automaton.specs.Meanings.{Weights}
@@ -13,11 +13,11 @@ use Rattle.preset.specs.declared.entry.Entry.{Entry}
 use Rattle.bench.specs.declared.state.Break.{Break}
 use Rattle.bench.specs.Answers.{found_said}
 use Rattle.bench.specs.Verdicts.{Broken, broken}
-use Rattle.report.specs.declared.line.Line.{Line}
-use Rattle.report.specs.declared.line.Question.{Question}
-use Rattle.report.specs.Texts.{Shape}
+use Rattle.report.specs.declared.report_line.ReportLine.{ReportLine}
+use Rattle.report.specs.declared.report_line.Question.{Question}
+use Rattle.report.specs.Texts.{Notation}
 use Rattle.preset_bench.specs.Finds.{Finds, sent_break, sent_found}
-use Rattle.report.specs.Lines.{LineIs}
+use Rattle.report.specs.ReportLines.{LineIs}
 use Rattle.report.specs.Reports.{VerdictLine}
 use Rattle.report.specs.Texts.{finding_text, verdict_text, verdict_good, ring_fits}
 
@@ -38,7 +38,7 @@ module _ {C : Type 0} (K : Kind C) (S : Sending C) (first second : List ℕ → 
   unfolding len_of
   len_is b e = ap len_of e ∙ len-found first second found
 
-  fits_on : (answer : Result (Option (Break C)) Fault) (strip ring : List ℕ) → found_said K answer ≡ and_then found (λ f. Ok (option_map (broken first second) f)) → ring ≡ front (ring_written found) strip
+  fits_on : (answer : Result (Option (Break C)) Fault) (strip ring : List ℕ) → found_said K answer ≡ and_then found (λ f. Ok (option_map (broken first second) f)) → ring ≡ at_front (ring_written found) strip
       → ring_fits (sent_found S answer) ring
   fits_on (Ok None) strip ring e shown = tt
   fits_on (Err f) strip ring e shown = tt
@@ -47,25 +47,25 @@ module _ {C : Type 0} (K : Kind C) (S : Sending C) (first second : List ℕ → 
       let m = ap length shown ∙ length-append (ring_written found) (drop (length (ring_written found)) strip) in
       omega arith
 
-  text_on : (question : Question) (subject : List ℕ) (shape : Shape) (answer : Result (Option (Break C)) Fault) (strip ring : List ℕ)
-      → found_said K answer ≡ and_then found (λ f. Ok (option_map (broken first second) f)) → ring ≡ front (ring_written found) strip
-      → verdict_text question subject shape ring (sent_found S answer) ≡ verdict_text question subject shape (ring_written found) (sent_found S answer)
-  text_on question subject shape (Ok None) strip ring e shown = refl
-  text_on question subject shape (Err f) strip ring e shown = refl
-  text_on question subject shape (Ok (Some b)) strip ring e shown =
+  text_on : (question : Question) (subject : List ℕ) (notation : Notation) (answer : Result (Option (Break C)) Fault) (strip ring : List ℕ)
+      → found_said K answer ≡ and_then found (λ f. Ok (option_map (broken first second) f)) → ring ≡ at_front (ring_written found) strip
+      → verdict_text question subject notation ring (sent_found S answer) ≡ verdict_text question subject notation (ring_written found) (sent_found S answer)
+  text_on question subject notation (Ok None) strip ring e shown = refl
+  text_on question subject notation (Err f) strip ring e shown = refl
+  text_on question subject notation (Ok (Some b)) strip ring e shown =
       let n : length (ring_written found) ≡ b.len = sym (len_is b e) in
       let cut : take b.len ring ≡ ring_written found = ap (take b.len) shown ∙ take_at (ring_written found) (drop (length (ring_written found)) strip) b.len n in
       let all : take b.len (ring_written found) ≡ ring_written found = take_all b.len (ring_written found) (omega arith) in
-      ap (λ (xs : List ℕ). finding_text question subject shape xs (sent_break S b)) (cut ∙ sym all)
+      ap (λ (xs : List ℕ). finding_text question subject notation xs (sent_break S b)) (cut ∙ sym all)
 
   module _ (label : Weights K.group.Carrier) (Right : Result (Option (ℕ × List ℕ)) Refusal → Type 0) (old new : List C) (strip ring : List ℕ) (answer : Result (Option (Break C)) Fault)
       (finds : Finds K label first second Right found old new strip ring answer) (sent : Result (Option (Break Entry)) Fault) (is : sent ≡ sent_found S answer) where
     pub finds_fit : ring_fits sent ring
     finds_fit = subst (λ (r : Result (Option (Break Entry)) Fault). ring_fits r ring) (sym is) (fits_on answer strip ring finds.is.said finds.shown)
 
-    pub told : (question : Question) (subject : List ℕ) (shape to : Shape) → shape ≡ to → (l : Line) → LineIs (verdict_text question subject shape ring sent) (verdict_good sent) l
+    pub told : (question : Question) (subject : List ℕ) (notation to : Notation) → notation ≡ to → (l : ReportLine) → LineIs (verdict_text question subject notation ring sent) (verdict_good sent) l
         → VerdictLine K S question subject to first second Right found l
-    told question subject shape to same l h = record {
+    told question subject notation to same l h = record {
       answer = answer;
       is = finds.is;
       line = record {

@@ -3,7 +3,7 @@ use Rattle.std.specs.Prelude.{ℕ, Bool, true, false, List, Some, None, Option, 
 use Rattle.fault.specs.declared.Fault.{Fault}
 use Rattle.fault.specs.Answers.{and_then}
 use Rattle.charge.specs.Groups.{Kind}
-use Rattle.automaton.specs.Making.{table_making, done}
+use Rattle.automaton.specs.Making.{table_making, passes}
 use Rattle.automaton.specs.Meanings.{Weights, total}
 use Rattle.preset.specs.declared.header.Header.{Header}
 use Rattle.bench.specs.declared.state.Break.{Break}
@@ -19,8 +19,8 @@ CompareFinds K d e found old new = Finds K (two_label_list K.group d e) (total K
 -- what comparing finds on strips of some lengths, once the two densities are made
 abbrev pub pair_found : {C : Type 0} → Kind C → Header → List C → Header → List C → ℕ → ℕ → Found
 pair_found K h charges h' charges' crossing_room ring_room =
-    and_then (done (table_making K h.q h.k charges)) (λ _.
-    and_then (done (table_making K h'.q h'.k charges')) (λ _.
+    and_then (passes (table_making K h.q h.k charges)) (λ _.
+    and_then (passes (table_making K h'.q h'.k charges')) (λ _.
     compare_found K (preset_density K h charges) (preset_density K h' charges') crossing_room ring_room))
 
 -- no word failed

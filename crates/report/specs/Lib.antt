@@ -1,4 +1,4 @@
 pub mod Texts
-pub mod Lines
+pub mod ReportLines
 pub mod Finds
 pub mod Reports

@@ -8,18 +8,18 @@ use Rattle.automaton.specs.Words.{word}
 use Rattle.preset.specs.declared.entry.Entry.{Entry}
 use Rattle.console.specs.Forms.{entry_text}
 use Rattle.bench.specs.declared.state.Break.{Break}
-use Rattle.report.specs.declared.line.Question.{Question}
-use Rattle.report.specs.declared.line.Question.TheVariants.{Judge, Compare}
-use Rattle.report.specs.declared.line.Shape.{Shape as ShapeOf}
+use Rattle.report.specs.declared.report_line.Question.{Question}
+use Rattle.report.specs.declared.report_line.Question.TheVariants.{Judge, Compare}
+use Rattle.report.specs.declared.report_line.LineNotation.{LineNotation}
 
 -- The kind of charge, the alphabet size, and how many letters the words have.
-pub record Shape : Type 0 where
+pub record Notation : Type 0 where
   pub kind : ChargeKind
   pub q : ℕ
   pub m : ℕ
 
-abbrev pub shape_of : ShapeOf → Shape
-shape_of s = record { kind = s.kind; q = s.q; m = s.m }
+abbrev pub notation_of : LineNotation → Notation
+notation_of s = record { kind = s.kind; q = s.q; m = s.m }
 
 -- the word for yes and the word for no
 abbrev pub good_word : Question → List ℕ
@@ -42,15 +42,15 @@ shown_text question subject word ring first second =
     subject ++ (codes "\t" ++ (bad_word question ++ (codes "\t" ++ (word ++ (codes "\t" ++ (ring ++ (codes "\t" ++ (first ++ (codes "\t" ++ second)))))))))
 
 -- a failing word, the ring that shows it, and its two totals
-abbrev pub finding_text : Question → List ℕ → Shape → List ℕ → Break Entry → List ℕ
-finding_text question subject shape ring f =
-    shown_text question subject (digits (word shape.q shape.m f.word)) (digits ring) (entry_text shape.kind f.first) (entry_text shape.kind f.second)
+abbrev pub finding_text : Question → List ℕ → Notation → List ℕ → Break Entry → List ℕ
+finding_text question subject notation ring f =
+    shown_text question subject (digits (word notation.q notation.m f.word)) (digits ring) (entry_text notation.kind f.first) (entry_text notation.kind f.second)
 
 -- what was found, with a strip that begins with the ring that shows it
-abbrev pub verdict_text : Question → List ℕ → Shape → List ℕ → Result (Option (Break Entry)) Fault → List ℕ
-verdict_text question subject shape strip (Ok None) = kept_text question subject
-verdict_text question subject shape strip (Ok (Some f)) = finding_text question subject shape (take f.len strip) f
-verdict_text question subject shape strip (Err f) = refused_text subject (refusal f)
+abbrev pub verdict_text : Question → List ℕ → Notation → List ℕ → Result (Option (Break Entry)) Fault → List ℕ
+verdict_text question subject notation strip (Ok None) = kept_text question subject
+verdict_text question subject notation strip (Ok (Some f)) = finding_text question subject notation (take f.len strip) f
+verdict_text question subject notation strip (Err f) = refused_text subject (refusal f)
 
 -- the answer is yes
 abbrev pub verdict_good : Result (Option (Break Entry)) Fault → Bool
@@ -69,8 +69,8 @@ abbrev pub two_parts : List ℕ → List ℕ → List ℕ
 two_parts word crossing = word ++ (codes "\t" ++ (crossing ++ codes "\n"))
 
 -- a word by its code and what crosses there, and a row for each of some words, by codes from i on
-abbrev pub row_text : Shape → ℕ → Entry → List ℕ
-row_text shape code e = two_parts (digits (word shape.q shape.m code)) (entry_text shape.kind e)
+abbrev pub row_text : Notation → ℕ → Entry → List ℕ
+row_text notation code e = two_parts (digits (word notation.q notation.m code)) (entry_text notation.kind e)
 
 abbrev pub rows_text : {X : Type 0} → (ℕ → X → List ℕ) → ℕ → List X → List ℕ
 rows_text row i [] = []

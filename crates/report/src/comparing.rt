@@ -2,26 +2,26 @@
 ghost use Rattle.std.specs.Prelude.{◌≡◌, true, IfOk, Ok};
 ghost use Rattle.preset.specs.Loads.{preset_of};
 ghost use Rattle.preset.specs.Presets.{whole_preset};
-ghost use Rattle.report.specs.Texts.{shape_of};
-ghost use Rattle.report.specs.Reports.{CompareLine, ComparedAs, CompareTells, compare_shape, same_kind};
+ghost use Rattle.report.specs.Texts.{notation_of};
+ghost use Rattle.report.specs.Reports.{CompareLine, ComparedAs, CompareTells, compare_notation, same_kind};
 
 use crate::charges::charges_of;
 use crate::compare::compare_tables;
-use crate::line::{Line, Question, Shape};
+use crate::report_line::{ReportLine, Question, LineNotation};
 use crate::texts::{Asked, kinds_line, refused_line};
 use crate::verdict::CROSSING_ROOM;
 use charge::{Both, Channels, ChargeKind, Pitch, Voices};
 use criterion::MOST_SHOWN;
-use preset::{Loaded, Sent, Strips};
+use preset::{Loaded, Sent, PresetStrips};
 use preset_bench::sent_found;
 use std::alloc::{AllocError, Global};
 
 // The kind and the alphabet of two densities, and the words that their label is on.
-fn compare_shape(first: Loaded<'_>, second: Loaded<'_>) -> Shape
+fn compare_notation(first: Loaded<'_>, second: Loaded<'_>) -> LineNotation
     ensures { let p = first.entry in
-        shape_of result ≡ compare_shape p.kind p.header second.entry.header }
+        notation_of result ≡ compare_notation p.kind p.header second.entry.header }
 {
-    Shape {
+    LineNotation {
         kind: first.kind,
         q: first.header.q as usize,
         m: first.header.k.max(second.header.k) as usize,
@@ -34,7 +34,7 @@ fn compare_charges<C: Sent>(
     subject: &str,
     first: Loaded<'_>,
     second: Loaded<'_>,
-) -> Result<Line, AllocError>
+) -> Result<ReportLine, AllocError>
     requires first { first.kind ≡ C.sending.named }
     requires second { second.kind ≡ C.sending.named }
     ensures { let p = first.entry in
@@ -57,7 +57,7 @@ fn compare_charges<C: Sent>(
     let asked = Asked {
         question: Question::Compare,
         subject,
-        shape: compare_shape(first, second),
+        notation: compare_notation(first, second),
     };
     asked.line(alloc, &ring, sent_found(found))
 }
@@ -68,7 +68,7 @@ fn compare_kind(
     subject: &str,
     first: Loaded<'_>,
     second: Loaded<'_>,
-) -> Result<Line, AllocError>
+) -> Result<ReportLine, AllocError>
     requires { second.kind ≡ first.kind }
     ensures { let p = first.entry in
         let other = second.entry in
@@ -89,7 +89,7 @@ fn compare_loaded(
     subject: &str,
     first: Loaded<'_>,
     second: Loaded<'_>,
-) -> Result<Line, AllocError>
+) -> Result<ReportLine, AllocError>
     ensures { let p = first.entry in
         let other = second.entry in
         IfOk result (ComparedAs (same_kind p.kind other.kind) p.kind subject.now
@@ -108,11 +108,11 @@ fn compare_with(
     first: Loaded<'_>,
     other: &str,
     bytes: &[u8],
-) -> Result<Line, AllocError>
+) -> Result<ReportLine, AllocError>
     ensures { let read = Ok (preset_of first.entry) in
         IfOk result (CompareTells name.now other.now read (whole_preset bytes.now)) }
 {
-    let mut strips = Strips::new();
+    let mut strips = PresetStrips::new();
     match strips.read(bytes) {
         Ok(second) => {
             let subject = format!(in alloc; "{name}\t{other}")?;
@@ -129,11 +129,11 @@ pub fn compare_line(
     input: &[u8],
     other: &str,
     bytes: &[u8],
-) -> Result<Line, AllocError>
+) -> Result<ReportLine, AllocError>
     ensures { IfOk result (CompareTells name.now other.now
         (whole_preset input.now) (whole_preset bytes.now)) }
 {
-    let mut strips = Strips::new();
+    let mut strips = PresetStrips::new();
     match strips.read(input) {
         Ok(first) => compare_with(alloc, name, first, other, bytes),
         Err(fault) => refused_line(alloc, name, fault),

@@ -1,10 +1,10 @@
 // A preset that was read, judged and told.
 ghost use Rattle.std.specs.Prelude.{◌≡◌, IfOk};
-ghost use Rattle.report.specs.Texts.{shape_of};
-ghost use Rattle.report.specs.Reports.{JudgeLine, JudgedAs, judge_shape};
+ghost use Rattle.report.specs.Texts.{notation_of};
+ghost use Rattle.report.specs.Reports.{JudgeLine, JudgedAs, judge_notation};
 
 use crate::charges::charges_of;
-use crate::line::{Line, Question, Shape};
+use crate::report_line::{ReportLine, Question, LineNotation};
 use crate::texts::Asked;
 use charge::{Both, Channels, ChargeKind, Pitch, Voices};
 use criterion::MOST_SHOWN;
@@ -17,11 +17,11 @@ use std::alloc::{AllocError, Global};
 pub(crate) const CROSSING_ROOM: usize = MOST_WORDS as usize;
 
 // The kind and the alphabet of a preset, and the words that its label is on.
-pub(crate) fn judge_shape(preset: Loaded<'_>) -> Shape
-    ensures { shape_of result ≡ judge_shape preset.entry.kind preset.entry.header }
+pub(crate) fn judge_notation(preset: Loaded<'_>) -> LineNotation
+    ensures { notation_of result ≡ judge_notation preset.entry.kind preset.entry.header }
 {
     let header = preset.header;
-    Shape {
+    LineNotation {
         kind: preset.kind,
         q: header.q as usize,
         m: (header.n + header.k - 1) as usize,
@@ -29,7 +29,7 @@ pub(crate) fn judge_shape(preset: Loaded<'_>) -> Shape
 }
 
 // The line of a preset of one kind.
-fn judge_charges<C: Sent>(alloc: Global, name: &str, preset: Loaded<'_>) -> Result<Line, AllocError>
+fn judge_charges<C: Sent>(alloc: Global, name: &str, preset: Loaded<'_>) -> Result<ReportLine, AllocError>
     requires { preset.kind ≡ C.sending.named }
     ensures { let p = preset.entry in
         IfOk result (JudgeLine C.kind C.sending name.now p.header p.letters.now p.entries.now) }
@@ -41,14 +41,14 @@ fn judge_charges<C: Sent>(alloc: Global, name: &str, preset: Loaded<'_>) -> Resu
     let asked = Asked {
         question: Question::Judge,
         subject: name,
-        shape: judge_shape(preset),
+        notation: judge_notation(preset),
     };
     asked.line(alloc, &ring, sent_found(found))
 }
 
 // The line of a preset of any kind. What is done for each kind is a generic function, which no closure or `dyn` can
 // stand for.
-pub(crate) fn judge_kind(alloc: Global, name: &str, preset: Loaded<'_>) -> Result<Line, AllocError>
+pub(crate) fn judge_kind(alloc: Global, name: &str, preset: Loaded<'_>) -> Result<ReportLine, AllocError>
     ensures { let p = preset.entry in
         IfOk result (JudgedAs p.kind name.now p.header p.letters.now p.entries.now) }
 {

@@ -7,7 +7,7 @@ mod output;
 mod playing;
 mod rows;
 mod session;
-mod table;
+mod ring_strips;
 mod trouble;
 
 use crate::files::{arguments, is_same_file, read_file, write_file};

@@ -3,7 +3,7 @@ use crate::trouble::Trouble;
 use cli::{Outcome, RefusalText};
 use console::ShowError;
 use fault::Fault;
-use report::Line;
+use report::ReportLine;
 use std::fmt;
 
 // Prints a text in one piece, so that none of it comes after a failure.
@@ -31,7 +31,7 @@ pub(crate) fn complain<'a>(rt: &HostRuntime, error: ShowError) -> Result<Outcome
 }
 
 // Prints a line of a report, and tells whether it is good.
-pub(crate) fn print_line<'a>(rt: &HostRuntime, line: Line) -> Result<Outcome, Trouble<'a>> {
+pub(crate) fn print_line<'a>(rt: &HostRuntime, line: ReportLine) -> Result<Outcome, Trouble<'a>> {
     let text = line.text;
     print_text(rt, format_args!("{text}\n"))?;
     Ok(Outcome::so(line.good))

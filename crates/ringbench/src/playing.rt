@@ -3,7 +3,7 @@ use crate::files::{read_file, read_input};
 use crate::output::{print_text, refuse};
 use crate::rows::{RingRun, run_meters, run_rings};
 use crate::session;
-use crate::table::Table;
+use crate::ring_strips::RingStrips;
 use crate::trouble::Trouble;
 use bench::Verdict;
 use charge::{Both, Channels, ChargeKind, Pitch, Voices};
@@ -11,7 +11,7 @@ use cli::{BreaksText, Command, Digits, Outcome, read_script};
 use criterion::MOST_SHOWN;
 use fault::limits::MOST_WORDS;
 use player::Player;
-use preset::{Loaded, Sent, Strips};
+use preset::{Loaded, Sent, PresetStrips};
 use preset_bench::{draft, fill_charges};
 
 // What is done on a bench that holds.
@@ -46,7 +46,7 @@ fn play_charges<'a, C: Sent>(
         }
         Err(refused) => return refuse(rt, refused.fault),
     };
-    let mut table = Table::new(rt.alloc())?;
+    let mut table = RingStrips::new(rt.alloc())?;
     match what {
         Playable::Script(script) => session::play(rt, &mut table, player, script),
         Playable::Meters(run) => run_meters(rt, &mut table, player, run),
@@ -82,7 +82,7 @@ fn play_input<'a>(
 // Plays the script on standard input on a preset. It is not read where the preset is refused.
 pub(crate) fn play<'a>(rt: &HostRuntime, path: &'a str) -> Result<Outcome, Trouble<'a>> {
     let bytes = read_file(rt, path)?;
-    let mut strips = Strips::new();
+    let mut strips = PresetStrips::new();
     match strips.read(&bytes) {
         Ok(preset) => play_input(rt, path, preset),
         Err(fault) => refuse(rt, fault),
@@ -100,7 +100,7 @@ pub(crate) fn run<'a>(
     let bytes = read_file(rt, path)?;
     let ring = ring.to_letters(rt.alloc())?;
     let run = RingRun { ring: &ring, steps };
-    let mut strips = Strips::new();
+    let mut strips = PresetStrips::new();
     match strips.read(&bytes) {
         Ok(preset) if meters => play_kind(rt, path, preset, Playable::Meters(run)),
         Ok(preset) => run_rings(rt, preset, run),

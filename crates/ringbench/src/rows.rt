@@ -1,6 +1,6 @@
 // A ring that is run on a preset, a row a step.
 use crate::output::{print_text, refuse};
-use crate::table::{PresetPlayer, Table};
+use crate::ring_strips::{PresetPlayer, RingStrips};
 use crate::trouble::Trouble;
 use automaton::{TableRule, next_ring};
 use charge::Voices;
@@ -47,7 +47,7 @@ pub(crate) fn run_rings<'a>(
 // Prints the ring and its later rings with what has crossed into each site, as a player's strips hold them.
 pub(crate) fn run_meters<'a, C: Sent>(
     rt: &HostRuntime,
-    table: &mut Table<C>,
+    table: &mut RingStrips<C>,
     player: PresetPlayer<'_, C>,
     run: RingRun<'_>,
 ) -> Result<Outcome, Trouble<'a>> {

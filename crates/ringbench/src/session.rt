@@ -1,7 +1,7 @@
 // A script that is played on a preset. Each command is answered as it is made, so that no room is taken by how many calls
 // there are.
 use crate::output::print_text;
-use crate::table::{PresetPlayer, Table};
+use crate::ring_strips::{PresetPlayer, RingStrips};
 use crate::trouble::Trouble;
 use charge::Charge;
 use cli::{Command, Outcome, Reply, ReplyText};
@@ -12,7 +12,7 @@ use std::alloc::{AllocError, Global};
 // Makes the calls of a command that is one call, or some steps.
 fn make_calls<'a, C: Charge>(
     alloc: Global,
-    table: &mut Table<C>,
+    table: &mut RingStrips<C>,
     player: PresetPlayer<'a, C>,
     command: Command<'_>,
 ) -> Result<(PresetPlayer<'a, C>, Option<Answer<C>>), AllocError> {
@@ -30,7 +30,7 @@ fn make_calls<'a, C: Charge>(
 // Answers a command, and prints the answer.
 fn answer<'a, 't, C: Sent>(
     rt: &HostRuntime,
-    table: &mut Table<C>,
+    table: &mut RingStrips<C>,
     player: PresetPlayer<'a, C>,
     readings: &mut Vec<Reading<C>>,
     command: Command<'_>,
@@ -60,7 +60,7 @@ fn answer<'a, 't, C: Sent>(
 // Plays a script from where no ring is open.
 pub(crate) fn play<'t, C: Sent>(
     rt: &HostRuntime,
-    table: &mut Table<C>,
+    table: &mut RingStrips<C>,
     player: PresetPlayer<'_, C>,
     script: &[Command<'_>],
 ) -> Result<Outcome, Trouble<'t>> {

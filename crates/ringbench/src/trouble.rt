@@ -1,5 +1,5 @@
 // Why the program stops before all that was asked is done.
-use cli::{ScriptError, ShownWord, UsageError};
+use cli::{ScriptError, ShownArgument, UsageError};
 use console::EncodeError;
 use std::alloc::{AllocError, AllocFailed};
 use std::io::ErrorKind;
@@ -92,8 +92,8 @@ impl From<ScriptError> for Trouble<'_> {
 }
 
 // A name as it is shown in a line.
-fn shown(name: &str) -> ShownWord<'_> {
-    ShownWord {
+fn shown(name: &str) -> ShownArgument<'_> {
+    ShownArgument {
         bytes: name.as_bytes(),
     }
 }

@@ -1,7 +1,7 @@
 use Rattle.std.proofs.Common.{◌<◌, [], map, length, refl, ap, ◌∙◌, subst, arith}
 use Rattle.std.specs.Option.{option_map}
 use Rattle.std.proofs.lemmas.List.{take_all}
-use Rattle.player.specs.Answers.{strips, answered, open_cells}
+use Rattle.player.specs.Answers.{strips, answer_meant, open_cells}
 use Rattle.player.proofs.Plays.{answers_past}
 use Rattle.capi.specs.Answers.{script_answer}
 use Rattle.capi.specs.Scripts.{asks, script_call, session, Obeys}
@@ -23,7 +23,7 @@ loop-i-preserved g c =
     let told = c.answer_one-next.ensures in
     let within : i < length a.script.now = omega arith in
     let room : i < length c.loop-i.answers = omega (arith, c.loop-i.auto.answers, c.requires) in
-    let said = option_map (answered K) c.answer_one-next.result.1 in
+    let said = option_map (answer_meant K) c.answer_one-next.result.1 in
     let was = strips K c.loop-i.cells c.loop-i.spare c.loop-i.opening c.loop-i.crossed c.loop-i.touched in
     let new = c.answer_one-next.new in
     let left = strips K new.cells new.spare new.opening new.crossed new.touched in
@@ -32,7 +32,7 @@ loop-i-preserved g c =
       told.bench ∙ inv.0,
       step.2,
       step.1,
-      given_more (option_map (answered K)) (script_answer g.C.Sent.sending) _ _ c.loop-i.answers i c.answer_one-next.result.1 said c.script_answer.result room inv.3 refl step.0 c.script_answer.ensures,
+      given_more (option_map (answer_meant K)) (script_answer g.C.Sent.sending) _ _ c.loop-i.answers i c.answer_one-next.result.1 said c.script_answer.result room inv.3 refl step.0 c.script_answer.ensures,
       answers_past c.loop-i.answers a.answers.now i c.script_answer.result inv.4,
     )
 
@@ -49,6 +49,6 @@ returns g c =
     record {
       given = inv.3.given;
       said = inv.3.said_is ∙ ap (λ p. p.said) whole;
-      answers = given_front (option_map (answered K)) (script_answer g.C.Sent.sending) _ c.loop-i.answers a.answers.now c.loop-i.i inv.3 inv.4;
+      answers = given_front (option_map (answer_meant K)) (script_answer g.C.Sent.sending) _ c.loop-i.answers a.answers.now c.loop-i.i inv.3 inv.4;
       cells_left = ap (λ s. s.cells) inv.2 ∙ ap (λ p. p.strips.cells) whole;
     }

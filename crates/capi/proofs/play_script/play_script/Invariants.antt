@@ -1,7 +1,7 @@
 use Rattle.std.proofs.Common.{◌≡◌, map, length, take, drop}
 use Rattle.std.specs.Option.{option_map}
 use Rattle.player.specs.Logs.{standing}
-use Rattle.player.specs.Answers.{strips, answered, open_cells, of_player}
+use Rattle.player.specs.Answers.{strips, answer_meant, open_cells, of_player}
 use Rattle.capi.specs.Answers.{script_answer}
 use Rattle.capi.specs.Scripts.{script_call, session}
 use Rattle.capi.proofs.Sessions.{Given}
@@ -16,5 +16,5 @@ invariant-loop-i g l =
     (of_player (λ h. h) (λ p. p.bench) l.player ≡ bench)
     × (open_cells (λ p. p.len) l.player ≡ length (standing now.log).cells)
     × (strips K l.cells l.spare l.opening l.crossed l.touched ≡ now.strips)
-    × (Given (option_map (answered K)) (script_answer g.C.Sent.sending) now.said l.answers l.i)
+    × (Given (option_map (answer_meant K)) (script_answer g.C.Sent.sending) now.said l.answers l.i)
     × (drop l.i l.answers ≡ drop l.i l.initial.answers)

@@ -1,5 +1,5 @@
 use Rattle.std.proofs.Common.{◌≡◌, drop}
-use Rattle.cli.specs.Words.{no_controls}
+use Rattle.cli.specs.ShownArguments.{no_controls}
 use Rattle.cli.proofs.shown.no_controls.Given as goal
 
 abbrev pub invariant-loop-byte : goal.invariant-loop-byte

@@ -1,6 +1,6 @@
 use Rattle.std.proofs.Common.{ap, ◌∙◌}
 use Rattle.console.specs.Numbers.{number}
-use Rattle.console.specs.Places.{at}
+use Rattle.console.specs.Places.{place_meant}
 use Rattle.console.specs.Rows.{read, row_of, number_row}
 use Rattle.console.specs.declared.error.Expected.TheVariants.{Number}
 use Rattle.console.proofs.Reading.{passed_on, value_stops, value_with}
@@ -10,8 +10,8 @@ pub returns-in_err-row : goal.returns-in_err-row
 unfolding number_row
 returns-in_err-row c =
     let out = passed_on c.from_residual.result c.in_err-row.field-0.0 c.from_residual.ensures.1 in
-    rw out (value_stops number c.args.part Number (at c.args.place) c.in_err-row.field-0.0 c.in_err-row.ensures)
+    rw out (value_stops number c.args.part Number (place_meant c.args.place) c.in_err-row.field-0.0 c.in_err-row.ensures)
 
 pub returns : goal.returns
 unfolding number_row
-returns c = ap (read (row_of (λ x. x))) c.with.ensures ∙ value_with number c.args.part Number (at c.args.place) c.in_ok-row.row c.read_number.result c.in_ok-row.ensures c.read_number.ensures.value
+returns c = ap (read (row_of (λ x. x))) c.with.ensures ∙ value_with number c.args.part Number (place_meant c.args.place) c.in_ok-row.row c.read_number.result c.in_ok-row.ensures c.read_number.ensures.value

@@ -1,5 +1,5 @@
 use Rattle.std.proofs.Common.{◌≡◌, ◌≤◌, ◌++◌, List, ℕ, length, drop, take, replicate, sym, ap, ap₂, ◌∙◌, arith, length-take-le}
-use Rattle.fault.specs.Answers.{front}
+use Rattle.fault.specs.Answers.{at_front}
 use Rattle.automaton.specs.Words.{word}
 use Rattle.automaton.proofs.Codes.{length-word}
 use Rattle.criterion.proofs.RingShown.{cut_fits, shown-taken, copied}
@@ -7,7 +7,7 @@ use Rattle.criterion.proofs.shown.write_shown.Goals as goal
 
 -- the word that is written into zeros
 written : (q m code : ℕ) (letters : List ℕ) → m ≤ 23 → letters ≡ word q (length (take m (replicate {A = ℕ} 23 0))) code →
-    letters ++ drop m (replicate {A = ℕ} 23 0) ≡ front (word q m code) (replicate {A = ℕ} 23 0)
+    letters ++ drop m (replicate {A = ℕ} 23 0) ≡ at_front (word q m code) (replicate {A = ℕ} 23 0)
 written q m code letters h is =
     ap₂ (λ w n. w ++ drop n (replicate {A = ℕ} 23 0))
     (is ∙ ap (λ n. word q n code) (length-take-le m (replicate {A = ℕ} 23 0) h))

@@ -6,14 +6,14 @@ use Rattle.preset.proofs.items.fill.Goals as goal
 
 pub read_there-requires : goal.read_there-requires
 read_there-requires g c =
-    let read = g.T.Item.format.reads c.args.shape c.args.input.whole in
+    let read = g.T.PresetItem.format.reads c.args.limits c.args.input.whole in
     let inv = c.loop-item.invariant in
     let some = length-take-le c.args.count c.args.strip.now c.requires.room in
     rw inv.0 (ok-first read c.args.count c.loop-item.item-index c.loop-item.input.bytes.now (omega arith) inv.2)
 
 pub loop-item-preserved : goal.loop-item-preserved
 loop-item-preserved g c =
-    let read = g.T.Item.format.reads c.args.shape c.args.input.whole in
+    let read = g.T.PresetItem.format.reads c.args.limits c.args.input.whole in
     let inv = c.loop-item.invariant in
     let some = length-take-le c.args.count c.args.strip.now c.requires.room in
     let i = c.loop-item.item-index in
@@ -28,7 +28,7 @@ loop-item-preserved g c =
 
 pub returns : goal.returns
 returns g c =
-    let read = g.T.Item.format.reads c.args.shape c.args.input.whole in
+    let read = g.T.PresetItem.format.reads c.args.limits c.args.input.whole in
     let inv = c.loop-item.invariant in
     let some = length-take-le c.args.count c.args.strip.now c.requires.room in
     ahead_all read c.args.count c.loop-item.item-index c.loop-item.input.bytes.now c.loop-item.item-items c.args.strip.now (many read c.args.count c.args.input.bytes.now) (omega arith) (omega arith) inv.1

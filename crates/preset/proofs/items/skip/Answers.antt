@@ -7,7 +7,7 @@ use Rattle.preset.proofs.items.skip.Goals as goal
 pub returns-in_err-read : goal.returns-in_err-read
 returns-in_err-read g c =
     let input = c.args.input.now in
-    let read = g.T.Item.format.reads c.args.shape input.whole in
+    let read = g.T.PresetItem.format.reads c.args.limits input.whole in
     let inv = c.loop.invariant in
     let e = rw inv.0 at c.in_err-read.ensures.answer_is in
     let p = err_from_is_err_and c.from_residual.result c.from_residual.ensures.1 in
@@ -17,7 +17,7 @@ returns-in_err-read g c =
 pub loop-preserved : goal.loop-preserved
 loop-preserved g c =
     let input = c.args.input.now in
-    let read = g.T.Item.format.reads c.args.shape input.whole in
+    let read = g.T.PresetItem.format.reads c.args.limits input.whole in
     let inv = c.loop.invariant in
     let e = rw inv.0 at c.in_ok-read.ensures.answer_is in
     let m = skipped_more read c.args.count c.loop.counter c.loop.input.bytes.now c.in_ok-read.field-0 c.read.new.input.bytes.now (omega arith) e in
@@ -25,5 +25,5 @@ loop-preserved g c =
 
 pub returns : goal.returns
 returns g c =
-    let read = g.T.Item.format.reads c.args.shape c.args.input.now.whole in
+    let read = g.T.PresetItem.format.reads c.args.limits c.args.input.now.whole in
     record { answer_is = sym (c.loop.invariant.1 ∙ skipped-all read c.args.count c.loop.counter c.loop.input.bytes.now (omega arith)); same_input = c.loop.invariant.0 }

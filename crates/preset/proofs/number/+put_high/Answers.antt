@@ -1,5 +1,5 @@
 use Rattle.std.proofs.Common.{◌≡◌, ◌+◌, ◌/◌, ◌%◌, [], length, sym, ap, arith}
-use Rattle.fault.specs.Answers.{front}
+use Rattle.fault.specs.Answers.{at_front}
 use Rattle.preset.specs.Numbers.{high_bytes}
 use Rattle.preset.proofs.Spelling.{high_step, length_high_step}
 use Rattle.preset.proofs.Fronts.{front_more}
@@ -8,7 +8,7 @@ use Rattle.preset.proofs.number.+put_high.Goals as goal
 pub returns-then-high-eq0 : goal.returns-then-high-eq0
 returns-then-high-eq0 t c =
     let e : high_bytes c.args.high ≡ [] = ap high_bytes c.if-high-eq0.true in
-    record { count = omega (arith, ap length e); strip = ap (λ bs. front bs c.args.out.now) (sym e) }
+    record { count = omega (arith, ap length e); strip = ap (λ bs. at_front bs c.args.out.now) (sym e) }
 
 pub put_high-last-requires : goal.put_high-last-requires
 put_high-last-requires t c =

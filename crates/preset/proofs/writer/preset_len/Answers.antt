@@ -21,5 +21,5 @@ returns c =
       arith,
       length_three (sent spell (header_numbers p.header)) (sent spell p.letters.now) (sent (entry_bytes p.kind) p.entries.now),
       ap (λ (xs : List ℕ). length (sent spell xs)) c.header_numbers-numbers.ensures,
-      ap (λ (k : ChargeKind). length (sent (entry_bytes k) p.entries.now)) c.shape-shape.ensures,
+      ap (λ (k : ChargeKind). length (sent (entry_bytes k) p.entries.now)) c.limits-limits.ensures,
     )

@@ -1,6 +1,6 @@
 use Rattle.std.proofs.Common.{take}
 use Rattle.std.specs.Fmt.{HasWritten, IsPlainFormatter}
-use Rattle.cli.specs.Words.{bytes_text}
+use Rattle.cli.specs.ShownArguments.{bytes_text}
 use Rattle.cli.proofs.shown.ShownBytesDisplay.fmt.Given as goal
 
 abbrev pub invariant-loop-byte : goal.invariant-loop-byte

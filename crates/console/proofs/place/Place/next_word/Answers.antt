@@ -1,5 +1,5 @@
 use Rattle.std.proofs.Common.{ℕ, ◌+◌, drop, sym, ap, ◌∙◌, arith}
-use Rattle.console.specs.Words.{next_word}
+use Rattle.console.specs.Cutting.{next_word}
 use Rattle.console.proofs.Passing.{past-newline, past-blank, at-word, at_end}
 use Rattle.console.proofs.place.Place.next_word.Goals as goal
 use Rattle.console.proofs.place.Place.next_word.Goals.{then-byte-eq10, else-byte-eq10+else-not-is_blank}

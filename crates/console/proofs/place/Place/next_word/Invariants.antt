@@ -1,5 +1,5 @@
 use Rattle.std.proofs.Common.{◌≡◌, ◌+◌, ◌≤◌, drop}
-use Rattle.console.specs.Words.{next_word}
+use Rattle.console.specs.Cutting.{next_word}
 use Rattle.console.proofs.place.Place.next_word.Given as goal
 
 abbrev pub invariant-loop-i : goal.invariant-loop-i

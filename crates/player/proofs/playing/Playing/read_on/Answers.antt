@@ -1,5 +1,5 @@
 use Rattle.std.proofs.Common.{[]}
-use Rattle.player.specs.Calls.Call.{reads}
+use Rattle.player.specs.Calls.PlayerCall.{reads}
 use Rattle.player.specs.Answers.{strips}
 use Rattle.player.proofs.Passed.{letters_passed}
 use Rattle.player.proofs.playing.Playing.read_on.Goals as goal

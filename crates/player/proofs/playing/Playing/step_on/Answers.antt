@@ -1,8 +1,8 @@
 use Rattle.std.proofs.Common.{ℕ, List, [], map, take, subst}
 use Rattle.automaton.specs.Meanings.{Local, Weights}
-use Rattle.criterion.specs.Strips.{FrontMeans}
+use Rattle.criterion.specs.ChargeStrips.{FrontMeans}
 use Rattle.player.specs.Calls.{booked, crossing_at}
-use Rattle.player.specs.Calls.Call.{steps}
+use Rattle.player.specs.Calls.PlayerCall.{steps}
 use Rattle.player.specs.Answers.{strips}
 use Rattle.player.proofs.Passed.{letters_passed}
 use Rattle.player.proofs.playing.Playing.step_on.Goals as goal

@@ -3,9 +3,9 @@ use Rattle.std.proofs.lemmas.List.{length-map, length-take-le, length-set}
 use Rattle.std.proofs.Math.Seq.{take-set-lt}
 use Rattle.automaton.specs.Words.{Letters}
 use Rattle.automaton.specs.Meanings.{Local, Weights}
-use Rattle.criterion.specs.Strips.{FrontMeans}
+use Rattle.criterion.specs.ChargeStrips.{FrontMeans}
 use Rattle.player.specs.Calls.{booked, charges}
-use Rattle.player.specs.Calls.Call.{touches}
+use Rattle.player.specs.Calls.PlayerCall.{touches}
 use Rattle.player.specs.Answers.{strips}
 use Rattle.player.proofs.Passed.{letters_passed, front_below, last_below, touches_fit}
 use Rattle.player.proofs.Kept.{letters_set}

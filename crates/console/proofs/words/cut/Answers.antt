@@ -1,7 +1,0 @@
-use Rattle.std.proofs.Common.{arith}
-use Rattle.std.proofs.lemmas.List.Sums.{prefix_len-le-length}
-use Rattle.console.specs.Words.{belongs}
-use Rattle.console.proofs.words.cut.Goals as goal
-
-pub split_at-requires : goal.split_at-requires
-split_at-requires c = omega (arith, c.front_len.ensures, prefix_len-le-length (belongs c.args.class) c.args.text.now)

@@ -1,4 +1,0 @@
-use Rattle.preset.proofs.loaded.Loaded.front.Goals as goal
-
-pub invariant_of-result : goal.invariant_of-result
-invariant_of-result c = rw (c.letter_count.ensures.count, c.entry_count.ensures.count) (record { sound = c.requires })
