@@ -13,7 +13,7 @@ use crate::word_set::WordSet;
 use charge::Charge;
 use fault::{Fault, Stop};
 
-// A density that gives its charge on one word, known by its code, and zero on all others.
+/// A density that gives its charge on one word, known by its code, and zero on all others.
 #[derive(Drop)]
 pub struct PatternDensity<C: Charge> {
     words: WordSet,
@@ -47,7 +47,7 @@ impl<C: Charge> Density<C> for PatternDensity<C> {
 impl<C: Charge> PatternDensity<C> {
     ghost use Rattle.automaton.specs.Meant.{pattern_meant, PatternsInRange};
 
-    // The density of two letters that weigh nothing.
+    /// The density of two letters that weigh nothing, to be filled.
     pub fn zero() -> PatternDensity<C>
         ensures { pattern_meant C.kind result ≡ zero_density C.kind }
     {
@@ -58,7 +58,11 @@ impl<C: Charge> PatternDensity<C> {
         }
     }
 
-    // Becomes the density of a word and its charge, or refuses and stays as it was.
+    /// Becomes the density that gives `charge` on the word of the first k letters of `word`, over q letters, or refuses and
+    /// stays as it was. Letters past the first k are ignored.
+    ///
+    /// Refused by `BadAlphabet`, `BadWidth`, `TooManyWords` where q^k is above 4,096, `ShortStrip` where `word` has fewer than
+    /// k letters, `BadLetter` at the index of the first letter not below q, and `BadEntry` where the charge may be no entry.
     #[tactic(auto, using(crate::proofs::VoicesInRange::patterns_in_range))]
     pub fn fill(&mut self, q: u64, k: u64, word: &[u8], charge: C) -> Result<(), Fault>
         ensures answer { plainly result ≡ passes (pattern_making C.kind q k word.now charge) }

@@ -15,10 +15,12 @@ use charge::Charge;
 use fault::limits::MOST_CELLS;
 use fault::{Fault, Stop};
 
-// Where the cells of a window stand around a cell: `width` of them, of which `before` stand before the cell itself.
+/// Where the cells of a window stand around a cell. `width` is at most 12.
 #[derive(Clone, Copy)]
 pub struct Span {
+    /// How many of them stand before the cell itself.
     pub before: usize,
+    /// How many cells the window has.
     pub width: usize,
     pub ghost narrow: { width ≤ most_window },
 }
@@ -26,10 +28,13 @@ pub struct Span {
 // A window's charge is booked at its first cell.
 const BOOKING_OFFSET: usize = 0;
 
-// A ring of 1 to MOST_CELLS cells, of letters below q.
+/// A ring of 1 to 4,096 cells, each of which has a letter below q; q is at most 8. Cell i is also cell i + L, where L is the
+/// number of cells.
 #[derive(Clone, Copy)]
 pub struct Ring<'a> {
+    /// What the letters are below.
     pub q: usize,
+    /// The letters, cell by cell.
     pub cells: &'a [u8],
     pub ghost few: { q ≤ most_letters },
     pub ghost some: { 1 ≤ length cells.now },
@@ -54,7 +59,10 @@ impl<'a> Ring<'a> {
         Ok(Ring { q, cells })
     }
 
-    // The ring of these cells under a rule, with `room` for as many, or the refusal.
+    /// The ring of these cells under a rule, where another strip has `room` for as many.
+    ///
+    /// Refused by `BadLength` where there are none or more than 4,096, `ShortStrip` where `room` is less than that, and
+    /// `BadLetter` at the first cell whose letter is not below the rule's q.
     pub fn under<R: Rule>(rule: &R, room: usize, cells: &'a [u8]) -> Result<Ring<'a>, Fault>
         ensures { let q = (R.meaning rule.now).q in
             let checked = ring_checked q room cells.now in
@@ -87,7 +95,7 @@ impl<'a> Ring<'a> {
         i % len + (len - before % len)
     }
 
-    // The code of the cells around cell i, which is also cell i + L.
+    /// The code of the word in the cells around cell i, any number from 0 on. A cell may stand in the word more than once.
     pub fn span_code(self, span: Span, i: usize) -> usize
         ensures { let cells = self.entry.cells.now in
             result ≡ code self.entry.q
@@ -132,7 +140,7 @@ impl<'a> Ring<'a> {
         }
     }
 
-    // The charge of site i, which is also site i + L, by the code of its cells.
+    /// The charge of site i, any number from 0 on: what the density gives the word in the k cells from cell i on.
     pub fn site_charge<C: Charge, D: Density<C>>(self, density: &D, i: usize) -> C
         ensures { let d = D.weights C.kind density.now in
             let cells = self.entry.cells.now in
@@ -161,7 +169,15 @@ impl<'a> Ring<'a> {
     }
 }
 
-// Writes the ring after one step to the front of a strip.
+/// Writes the ring after one step to the front of a strip, whose entries past it stay: the next letter of cell i is the
+/// rule's answer for the word in the n cells from l cells before cell i on.
+///
+/// Refused by `BadLength` where the ring does not have 1 to 4,096 cells, `ShortStrip` where the strip has fewer, and
+/// `BadLetter` at the first cell whose letter is not below the rule's q. A refusal writes nothing.
+///
+/// ```rust
+/// next_ring(&rule_184, &[1, 1, 0, 0], &mut strip)?; // 1, 0, 1, 0 at the front of the strip
+/// ```
 pub fn next_ring<R: Rule>(rule: &R, ring: &[u8], strip: &mut [u8]) -> Result<(), Fault>
     ensures answer { plainly result
         ≡ passes (ring_checked (R.meaning rule.now).q (length strip.old) ring.now) }
@@ -173,7 +189,10 @@ pub fn next_ring<R: Rule>(rule: &R, ring: &[u8], strip: &mut [u8]) -> Result<(),
     Ok(())
 }
 
-// The total of a ring: the sum over its sites.
+/// The total of a ring: the sum of the charges of its sites.
+///
+/// Refused by `BadLength` where the ring does not have 1 to 4,096 cells, and `BadLetter` at the first cell whose letter is
+/// not below the density's q.
 pub fn total<C: Charge, D: Density<C>>(density: &D, ring: &[u8]) -> Result<C, Fault>
     ensures { let d = D.weights C.kind density.now in
         charged C.kind result

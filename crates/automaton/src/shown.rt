@@ -5,9 +5,10 @@ ghost use Rattle.automaton.specs.Words.{word};
 
 use std::fmt;
 
-// Letters, shown one after another.
+/// Letters, shown in decimal one after another with nothing between.
 #[derive(Clone, Copy)]
 pub struct ShownLetters<'a> {
+    /// The letters, the first one first.
     pub letters: &'a [u8],
 }
 
@@ -22,11 +23,14 @@ impl fmt::Display for ShownLetters<'_> {
     }
 }
 
-// The word of m letters below q with a code, shown likewise.
+/// The word of m letters below q with a code, shown in the same way; q is at least 1.
 #[derive(Clone, Copy)]
 pub struct ShownWord {
+    /// What the letters are below.
     pub q: usize,
+    /// How many letters the word has.
     pub m: usize,
+    /// The word's value in base q, with the first letter most significant.
     pub code: usize,
     pub ghost some: { 1 ≤ q },
 }

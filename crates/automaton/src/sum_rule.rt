@@ -9,7 +9,7 @@ use crate::rule::Rule;
 use crate::word_set::WordSet;
 use fault::Fault;
 
-// A rule of which the answer for a word stands at the sum of its letters.
+/// A rule of which the answer for a word stands at the sum of its letters, in a table that the caller lends.
 #[derive(Clone, Copy)]
 pub struct SumRule<'a> {
     table: LookupTable<'a>,
@@ -62,7 +62,7 @@ impl Rule for SumRule<'_> {
 impl<'a> SumRule<'a> {
     ghost use Rattle.automaton.specs.Meant.{sum_rule_meant};
 
-    // The rule of two letters and a window of one cell that answers 0.
+    /// The rule of two letters and a window of one cell that answers 0, to be filled.
     pub fn zero() -> SumRule<'a>
         ensures { sum_rule_meant result ≡ zero_rule }
     {
@@ -71,7 +71,11 @@ impl<'a> SumRule<'a> {
         }
     }
 
-    // Becomes the rule of a table of sums, or refuses and stays as it was.
+    /// Becomes the rule of the first n (q - 1) + 1 letters, one for each sum of a window's letters, or refuses and stays as it was. Letters past
+    /// those are ignored.
+    ///
+    /// Refused by `BadAlphabet`, `BadWindow`, `BadReach`, `TooManyWords` where q^n is above 4,096, `ShortStrip` where there are
+    /// fewer letters, and `BadLetter` at the index of the first letter not below q.
     pub fn fill(&mut self, q: u64, n: u64, l: u64, letters: &'a [u8]) -> Result<(), Fault>
         ensures answer { plainly result ≡ passes (rule_making q n l (sum_count q n) letters.now) }
         ensures rule { OnOk result (sum_rule_meant self.new ≡ sum_rule q n l letters.now) }

@@ -11,7 +11,7 @@ use crate::word_set::WordSet;
 use charge::Charge;
 use fault::Fault;
 
-// A density of which the charges stand in a table, in the order of the codes.
+/// A density of which the charges stand in a table that the caller lends, in the order of the codes.
 #[derive(Drop)]
 pub struct TableDensity<'a, C: Charge> {
     words: WordSet,
@@ -43,7 +43,7 @@ impl<C: Charge> Density<C> for TableDensity<'_, C> {
 impl<'a, C: Charge> TableDensity<'a, C> {
     ghost use Rattle.automaton.specs.Meant.{table_meant, TablesInRange};
 
-    // The density of two letters that weigh nothing.
+    /// The density of two letters that weigh nothing, to be filled.
     pub fn zero() -> TableDensity<'a, C>
         ensures { table_meant C.kind result ≡ zero_density C.kind }
     {
@@ -53,7 +53,11 @@ impl<'a, C: Charge> TableDensity<'a, C> {
         }
     }
 
-    // Becomes the density of a table, or refuses and stays as it was.
+    /// Becomes the density of the first q^k entries, in the order of the codes of words, or refuses and stays as it was.
+    /// Entries past those are ignored.
+    ///
+    /// Refused by `BadAlphabet`, `BadWidth`, `TooManyWords` where q^k is above 4,096, `ShortStrip` where there are fewer
+    /// entries, and `BadEntry` at the index of the first charge that may be no entry.
     #[tactic(auto, using(crate::proofs::VoicesInRange::tables_in_range))]
     pub fn fill(&mut self, q: u64, k: u64, entries: &'a [C]) -> Result<(), Fault>
         ensures answer { plainly result ≡ passes (table_making C.kind q k entries.now) }

@@ -8,7 +8,7 @@ use crate::making::check_rule;
 use crate::rule::Rule;
 use fault::Fault;
 
-// A rule of which the answers stand in a table, in the order of the codes.
+/// A rule of which the answers stand in a table that the caller lends, in the order of the codes.
 #[derive(Clone, Copy)]
 pub struct TableRule<'a> {
     table: LookupTable<'a>,
@@ -41,7 +41,7 @@ impl Rule for TableRule<'_> {
 impl<'a> TableRule<'a> {
     ghost use Rattle.automaton.specs.Meant.{table_rule_meant};
 
-    // The rule of two letters and a window of one cell that answers 0.
+    /// The rule of two letters and a window of one cell that answers 0, to be filled.
     pub fn zero() -> TableRule<'a>
         ensures { table_rule_meant result ≡ zero_rule }
     {
@@ -50,7 +50,16 @@ impl<'a> TableRule<'a> {
         }
     }
 
-    // Becomes the rule of a table, or refuses and stays as it was.
+    /// Becomes the rule of the first q^n letters, in the order of the codes of words, or refuses and stays as it was. Letters past
+    /// those are ignored.
+    ///
+    /// Refused by `BadAlphabet`, `BadWindow`, `BadReach`, `TooManyWords` where q^n is above 4,096, `ShortStrip` where there are
+    /// fewer letters, and `BadLetter` at the index of the first letter not below q.
+    ///
+    /// ```rust
+    /// let mut rule_184 = TableRule::zero();
+    /// rule_184.fill(2, 3, 1, &[0, 0, 0, 1, 1, 1, 0, 1])?;
+    /// ```
     pub fn fill(&mut self, q: u64, n: u64, l: u64, letters: &'a [u8]) -> Result<(), Fault>
         ensures answer { plainly result ≡ passes (rule_making q n l (q ^ n) letters.now) }
         ensures rule { OnOk result (table_rule_meant self.new ≡ table_rule q n l letters.now) }

@@ -8,11 +8,14 @@ ghost use Rattle.automaton.specs.Making.{words_counted};
 use fault::limits::word_count;
 use fault::{Fault, Stop};
 
-// The words of m letters below q, and how many these are.
+/// The words of m letters below q, and how many these are: at most 4,096.
 #[derive(Clone, Copy)]
 pub struct WordSet {
+    /// The alphabet size, 2 to 8.
     pub q: usize,
+    /// How many letters each word has, 1 to 12.
     pub m: usize,
+    /// How many words there are: q^m.
     pub count: usize,
     pub ghost sizes: { DensityLimits q m },
     pub ghost few: { q ^ m ≤ most_words },

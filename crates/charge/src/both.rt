@@ -5,10 +5,12 @@ use crate::Charge;
 use crate::pitch::Pitch;
 use crate::voices::Voices;
 
-// Each part is added by itself.
+/// A voices charge and a pitch charge, each of which is added by itself.
 #[derive(Clone, Copy, PartialEq, Eq, Debug)]
 pub struct Both {
+    /// The part in voices.
     pub voices: Voices,
+    /// The part in pitch classes.
     pub pitch: Pitch,
 }
 

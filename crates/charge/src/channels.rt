@@ -4,11 +4,13 @@ ghost use Rattle.charge.specs.Kinds.{channels};
 
 use crate::Charge;
 
-// The number of sets of channels.
+/// The number of sets of channels: 2^16.
 pub const CHANNEL_SETS: u64 = 65_536;
 
+/// A set of sixteen channels. Sets are added by exclusive or, so each is its own opposite, and each may be an entry.
 #[derive(Clone, Copy, PartialEq, Eq, Debug)]
 pub struct Channels {
+    /// Bit i is set where the set has channel i.
     pub bits: u16,
 }
 

@@ -3,18 +3,23 @@ ghost use Rattle.std.specs.Prelude.{◌≡◌};
 ghost use Rattle.std.specs.Option.{ok_or};
 ghost use Rattle.charge.specs.Numbers.{number_of, kind_of};
 
-// Which of the delivered kinds a preset uses, by its number there.
+/// Which of the delivered kinds a preset uses, by its number there.
 #[derive(Clone, Copy, PartialEq, Eq, Debug)]
 pub enum ChargeKind {
+    /// Whole numbers modulo 2^64: [`Voices`](crate::Voices).
     Voices = 0,
+    /// Pitch classes: [`Pitch`](crate::Pitch).
     Pitch = 1,
+    /// Sets of channels: [`Channels`](crate::Channels).
     Channels = 2,
+    /// A voices charge and a pitch charge: [`Both`](crate::Both).
     Both = 3,
 }
 
-// A number that no kind has.
+/// A number that no kind has.
 #[derive(Clone, Copy, PartialEq, Eq, Debug)]
 pub struct UnknownKind {
+    /// The number, which is above 3.
     pub number: u64,
 }
 

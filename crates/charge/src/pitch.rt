@@ -5,10 +5,10 @@ ghost use Rattle.charge.specs.Ranges.{pitch_end};
 
 mod adding;
 
-// The number of pitch classes.
+/// The number of pitch classes.
 pub const PITCH_CLASSES: u8 = 12;
 
-// A pitch class. Its fields are private, so none above 11 can be made.
+/// A pitch class, 0 to 11, added modulo 12. Its field is private, so none above 11 can be made. Each may be an entry.
 #[derive(Clone, Copy, PartialEq, Eq, Debug)]
 pub struct Pitch {
     class: u8,
@@ -18,6 +18,7 @@ pub struct Pitch {
 impl Pitch {
     ghost use Rattle.charge.specs.Kinds.{class_of};
 
+    /// The pitch class with this number, if it is below `PITCH_CLASSES`.
     pub fn new(class: u8) -> Option<Pitch>
         ensures { option_map class_of result
             ≡ (if nat_lt class pitch_end then Some class else None) }
@@ -29,6 +30,7 @@ impl Pitch {
         }
     }
 
+    /// The number of the class, 0 to 11.
     pub fn class(self) -> u8
         ensures { result ≡ class_of self }
     {

@@ -5,13 +5,17 @@ ghost use Rattle.charge.specs.Ranges.{voices_range};
 
 use crate::Charge;
 
-// A density's entry is LEAST_VOICES to MOST_VOICES.
+/// The least count that an entry of a density may have.
 pub const LEAST_VOICES: i64 = -2_147_483_648;
 
+/// The largest count that an entry of a density may have.
 pub const MOST_VOICES: i64 = 2_147_483_647;
 
+/// A number of voices: a whole number modulo 2^64, read as a signed number. Sums wrap around. From `LEAST_VOICES` to
+/// `MOST_VOICES` it may be an entry, and what is judged under such entries is also true of whole numbers without bounds.
 #[derive(Clone, Copy, PartialEq, Eq, Debug)]
 pub struct Voices {
+    /// How many voices.
     pub count: i64,
 }
 

@@ -2,23 +2,26 @@
 ghost use Rattle.std.specs.Prelude.{◌≡◌};
 ghost use Rattle.fault.specs.Limits.{word_count};
 
-// An alphabet has 2 to 8 letters.
+/// The smallest alphabet size q.
 pub const LEAST_LETTERS: u64 = 2;
 
+/// The largest alphabet size q.
 pub const MOST_LETTERS: u64 = 8;
 
-// A rule's window has 1 to 12 letters, and so has a density's width.
+/// The largest window n of a rule; the smallest is 1.
 pub const MOST_WINDOW: u64 = 12;
 
+/// The largest width k of a density; the smallest is 1.
 pub const MOST_WIDTH: u64 = 12;
 
-// The words of a window are at most 4,096.
+/// The most words of a rule's window, of a density's width or of a label.
 pub const MOST_WORDS: u64 = 4096;
 
-// A ring has 1 to 4,096 cells.
+/// The most cells of a ring; the fewest is 1.
 pub const MOST_CELLS: usize = 4096;
 
-// How many words of m letters there are, where q is an alphabet size and the words are few.
+/// How many words of m letters there are, q^m, where q is an alphabet size and there are at most `MOST_WORDS`; otherwise
+/// none. There is one word of no letters.
 pub fn word_count(q: u64, m: u64) -> Option<usize>
     ensures { result ≡ word_count q m }
 {
