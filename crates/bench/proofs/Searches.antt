@@ -12,6 +12,7 @@ use Rattle.automaton.specs.Meanings.{Local, Weights, Lawful, Weighed, next, tota
 use Rattle.automaton.proofs.Passes.{ring_ready}
 use Rattle.automaton.proofs.Steps.{length-next, next_word}
 use Rattle.criterion.specs.Answers.{with_length, examined, crossings_written, ring_written}
+use Rattle.criterion.specs.Labelled.{LabelList}
 use Rattle.criterion.specs.Search.{padding, crossings}
 use Rattle.criterion.specs.ChargeStrips.{FrontMeans}
 use Rattle.bench.specs.Labels.{rule_label_list, two_label, two_label_list, listed}
@@ -28,8 +29,8 @@ pub record Left {C : Type 0} (K : Kind C) (found : Found) (all : List K.group.Ca
   pub answer : said ≡ with_length found
   pub left : Leaves K found all old new
 
-module _ {C : Type 0} (K : Kind C) (L M : Weights K.group.Carrier) (t : Result (Unit {0}) Refusal) (said : Result (Option (ℕ × ℕ)) Refusal) (old new : Lent C) where
-  abbrev look : Weights K.group.Carrier → Found
+module _ {C : Type 0} (K : Kind C) (L M : LabelList K.group.Carrier) (t : Result (Unit {0}) Refusal) (said : Result (Option (ℕ × ℕ)) Refusal) (old new : Lent C) where
+  abbrev look : LabelList K.group.Carrier → Found
   look N = examined K padding N (length old.crossings) (length old.ring)
 
   -- the same label under another name, once the sizes have passed
@@ -37,7 +38,7 @@ module _ {C : Type 0} (K : Kind C) (L M : Weights K.group.Carrier) (t : Result (
       new.ring ≡ at_front (ring_written (look L)) old.ring → Left K (and_then t (λ _. look M)) (crossings K padding M) said old new
   left_passed passed same x y z =
       subst (λ (u : Result (Unit {0}) Refusal). Left K (and_then u (λ _. look M)) (crossings K padding M) said old new) (sym passed)
-      (subst (λ (N : Weights K.group.Carrier). Left K (look N) (crossings K padding N) said old new) same (record { answer = x; left = record { crossings = y; ring = z } }))
+      (subst (λ (N : LabelList K.group.Carrier). Left K (look N) (crossings K padding N) said old new) same (record { answer = x; left = record { crossings = y; ring = z } }))
 
 -- sizes that a rule and a density have are those of a bench
 pub sizes-pass : {C : Type 0} {K : Kind C} (s : RuleSizes) (b : Bench K) → SizesOf s b.rule b.density → bench_checked b ≡ Ok tt

@@ -12,7 +12,7 @@ ghost use Rattle.bench.specs.Verdicts.{ShownRing, bench_checked, broken, lent, j
 use crate::next_words::NextWords;
 use crate::rule_label::RuleLabel;
 use crate::sizes::RuleSizes;
-use crate::state::{Break, Breaking, Draft, Holding, BenchParts, Refused, Verdict};
+use crate::state::{BenchParts, Break, Breaking, Draft, Holding, Refused, Verdict};
 use automaton::{Density, Rule, next_ring, total};
 use charge::Charge;
 use criterion::{Failure, MOST_SHOWN, examine};

@@ -5,10 +5,10 @@ mod comparing;
 mod holding;
 mod judging;
 mod next_words;
-mod subword;
 mod rule_label;
 mod sizes;
 mod state;
+mod subword;
 mod two_label;
 
 pub use comparing::compare;
@@ -16,5 +16,5 @@ pub use holding::SiteCrossings;
 pub use judging::Judged;
 pub use next_words::NextWords;
 pub use rule_label::RuleLabel;
-pub use state::{Break, Breaking, Comparison, Draft, Holding, BenchParts, Refused, Verdict};
+pub use state::{BenchParts, Break, Breaking, Comparison, Draft, Holding, Refused, Verdict};
 pub use two_label::TwoLabel;

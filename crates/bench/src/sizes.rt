@@ -4,8 +4,8 @@ ghost use Rattle.fault.specs.Answers.{plainly, and_then};
 ghost use Rattle.fault.specs.Refusals.{refusal};
 ghost use Rattle.bench.specs.Verdicts.{fitting, bench_checked, pair_checked};
 
-use crate::subword::Subword;
 use crate::state::BenchParts;
+use crate::subword::Subword;
 use automaton::{Density, Rule, WordSet};
 use charge::Charge;
 use fault::limits::word_count;

@@ -8,7 +8,7 @@ use Rattle.fault.specs.Answers.{at_front}
 use Rattle.charge.specs.Groups.{Group, Kind, minus, sum_over}
 use Rattle.charge.proofs.Sums.{left_comm, interchange, neg_is, sum_more, sum_same, sum_first}
 use Rattle.automaton.specs.Words.{code, word, repeated, table}
-use Rattle.automaton.specs.Meanings.{Weights, weight}
+use Rattle.criterion.specs.Labelled.{LabelList, label_at}
 use Rattle.automaton.proofs.Codes.{length-word, power-some, code-word}
 use Rattle.automaton.proofs.Rings.{length-table, get_or-table, window-append}
 use Rattle.criterion.specs.Search.{J, crossings}
@@ -69,28 +69,28 @@ moved G s t z a e =
     ∙ ap₂ G.add (G.cancel a) (G.cancel t)
     ∙ G.unit G.zero)
 
-module _ {C : Type 0} (K : Kind C) (d : Weights K.group.Carrier) where
+module _ {C : Type 0} (K : Kind C) (d : LabelList K.group.Carrier) where
   -- the label on the word of code v without its last i letters
   abbrev front_label : ℕ → ℕ → K.group.Carrier
   front_label v i = get_or d.charges (v / d.q ^ i) K.group.zero
 
-  crossing-code : (v : ℕ) → 0 < d.q → v < d.q ^ (d.k - 1) →
-      J K 0 d (word d.q (d.k - 1) v) ≡ K.group.neg (sum_over K.group (front_label v) (d.k - 1))
+  crossing-code : (v : ℕ) → 0 < d.q → v < d.q ^ (d.m - 1) →
+      J K 0 d (word d.q (d.m - 1) v) ≡ K.group.neg (sum_over K.group (front_label v) (d.m - 1))
   crossing-code v some below =
       let G = K.group in
-      let r = d.k - 1 in
+      let r = d.m - 1 in
       ap G.neg
-      (sum_same G (λ j. weight G d (repeated 0 (r - j) ++ take (suc j) (word d.q r v))) (λ j. front_label v (r - suc j)) r
+      (sum_same G (λ j. label_at G d (repeated 0 (r - j) ++ take (suc j) (word d.q r v))) (λ j. front_label v (r - suc j)) r
       (λ j h. ap (λ c. get_or d.charges c G.zero) (head-code d.q r v j some below h))
       ∙ sym (sum_back G (front_label v) r))
 
   -- the crossing of a word from that of its at_front: J(v) = J(v / q) - d(v) + d(0)
-  pub crossing-front : (v : ℕ) (x z a : K.group.Carrier) → 0 < d.q → v < d.q ^ (d.k - 1) →
-      x ≡ J K 0 d (word d.q (d.k - 1) (v / d.q)) → z ≡ get_or d.charges 0 K.group.zero → a ≡ get_or d.charges v K.group.zero →
-      K.group.add x (minus K.group z a) ≡ J K 0 d (word d.q (d.k - 1) v)
+  pub crossing-front : (v : ℕ) (x z a : K.group.Carrier) → 0 < d.q → v < d.q ^ (d.m - 1) →
+      x ≡ J K 0 d (word d.q (d.m - 1) (v / d.q)) → z ≡ get_or d.charges 0 K.group.zero → a ≡ get_or d.charges v K.group.zero →
+      K.group.add x (minus K.group z a) ≡ J K 0 d (word d.q (d.m - 1) v)
   crossing-front v x z a some below ex ez ea =
       let G = K.group in
-      let r = d.k - 1 in
+      let r = d.m - 1 in
       let f : ℕ → G.Carrier = front_label v in
       let fewer : sum_over G (λ i. f (suc i)) r ≡ sum_over G (front_label (v / d.q)) r =
       sum_same G (λ i. f (suc i)) (front_label (v / d.q)) r
@@ -115,8 +115,8 @@ module _ {C : Type 0} (K : Kind C) (d : Weights K.group.Carrier) where
     is ∙ sum_more K.group (front_label v) j (K.means s) (K.means x) sums (at ∙ ap (λ c. get_or d.charges c K.group.zero) fronts),
   )
 
-  pub summed_all : (v j at_front : ℕ) (s : C) → Summed v j at_front s → j ≡ d.k - 1 → 0 < d.q → v < d.q ^ (d.k - 1) →
-      K.group.neg (K.means s) ≡ J K 0 d (word d.q (d.k - 1) v)
+  pub summed_all : (v j at_front : ℕ) (s : C) → Summed v j at_front s → j ≡ d.m - 1 → 0 < d.q → v < d.q ^ (d.m - 1) →
+      K.group.neg (K.means s) ≡ J K 0 d (word d.q (d.m - 1) v)
   summed_all v j at_front s (fronts, sums) all some below =
       ap K.group.neg (sums ∙ ap (sum_over K.group (front_label v)) all) ∙ sym (crossing-code v some below)
 
@@ -143,10 +143,10 @@ module _ {C X : Type 0} (means : C → X) (f : ℕ → X) where
   pub filled_so-far : (strip : List C) (n i : ℕ) (x : C) → map means (take n strip) ≡ table n f → i < n → x ≡ get_or strip i x → means x ≡ f i
   filled_so-far strip n i x filled h is = filled_at (take n strip) n i x filled h (is ∙ sym (get_or-take n strip i x h))
 
-module _ {C : Type 0} (K : Kind C) (d : Weights K.group.Carrier) (strip : List C) (filled : map K.means strip ≡ crossings K 0 d) where
+module _ {C : Type 0} (K : Kind C) (d : LabelList K.group.Carrier) (strip : List C) (filled : map K.means strip ≡ crossings K 0 d) where
   -- a filled strip has one charge for each word of m - 1 letters
-  pub filled-count : length strip ≡ d.q ^ (d.k - 1)
-  filled-count = sym (length-map strip K.means) ∙ ap length filled ∙ length-table (d.q ^ (d.k - 1)) (λ v. J K 0 d (word d.q (d.k - 1) v))
+  pub filled-count : length strip ≡ d.q ^ (d.m - 1)
+  filled-count = sym (length-map strip K.means) ∙ ap length filled ∙ length-table (d.q ^ (d.m - 1)) (λ v. J K 0 d (word d.q (d.m - 1) v))
 
 -- one more letter of a word, from its last on, in its place
 pub write_more : (q n rest : ℕ) (strip : List ℕ) → n < length strip →

@@ -9,7 +9,7 @@ use charge::{Charge, difference};
 
 // How many words of m - 1 letters there are.
 pub(crate) fn head_count<C: Charge, L: Label<C>>(label: &L) -> usize
-    ensures { result ≡ (L.labels C.kind label.now).q ^ ((L.labels C.kind label.now).k - 1) }
+    ensures { result ≡ (L.labels C.kind label.now).q ^ ((L.labels C.kind label.now).m - 1) }
 {
     label.q().pow((label.m() - 1) as u32)
 }
@@ -19,10 +19,10 @@ pub(crate) fn head_count<C: Charge, L: Label<C>>(label: &L) -> usize
 #[inline(always)]
 fn fronts_sum<C: Charge, L: Label<C>>(label: &L, v: usize) -> (C, usize)
     ensures left { let d = L.labels C.kind label.now in
-        result.1 ≡ v / d.q ^ (d.k - 1) }
+        result.1 ≡ v / d.q ^ (d.m - 1) }
     ensures sum { let d = L.labels C.kind label.now in
-        v < d.q ^ (d.k - 1) →
-        C.kind.group.neg (C.kind.means result.0) ≡ J C.kind padding d (word d.q (d.k - 1) v) }
+        v < d.q ^ (d.m - 1) →
+        C.kind.group.neg (C.kind.means result.0) ≡ J C.kind padding d (word d.q (d.m - 1) v) }
 {
     let q = label.q();
     let mut front = v;
@@ -57,7 +57,7 @@ fn next_crossing<C: Charge>(front: C, zeros: C, whole: C) -> C
 // so that one label is asked for a word. By index, since a front stands before its word in the strip.
 pub(crate) fn fill_crossings<C: Charge, L: Label<C>>(label: &L, strip: &mut [C])
     requires { let d = L.labels C.kind label.now in
-        length strip.old ≡ d.q ^ (d.k - 1) }
+        length strip.old ≡ d.q ^ (d.m - 1) }
     ensures { map C.kind.means strip.new ≡ crossings C.kind padding (L.labels C.kind label.now) }
 {
     let q = label.q();

@@ -51,7 +51,7 @@ fn fails<C: Charge, L: Label<C>>(label: &L, crossings: &[C], head: usize, code: 
     requires front { (code / (L.labels C.kind label.now).q ≡ head)
         × (head < length crossings.now) }
     ensures { let d = L.labels C.kind label.now in
-        result ≡ fails_at C.kind padding d (word d.q d.k code) }
+        result ≡ fails_at C.kind padding d (word d.q d.m code) }
 {
     let crosses = difference(crossings[head], crossings[code % crossings.len()]);
     !labelled(label, code, crosses)

@@ -61,11 +61,11 @@ pub(crate) fn write_shown<C: Charge, L: Label<C>>(
     code: usize,
     strip: &mut [u8],
 ) -> Result<usize, Fault>
-    requires { 2 * (L.labels C.kind label.now).k - 1 ≤ length strip.old }
+    requires { 2 * (L.labels C.kind label.now).m - 1 ≤ length strip.old }
     ensures answer { let d = L.labels C.kind label.now in
-        plainly result ≡ Ok (length (shown C.kind padding d (word d.q d.k code))) }
+        plainly result ≡ Ok (length (shown C.kind padding d (word d.q d.m code))) }
     ensures strip { let d = L.labels C.kind label.now in
-        strip.new ≡ at_front (shown C.kind padding d (word d.q d.k code)) strip.old }
+        strip.new ≡ at_front (shown C.kind padding d (word d.q d.m code)) strip.old }
 {
     let m = label.m();
     let mut cells = [0u8; MOST_SHOWN];

@@ -11,17 +11,17 @@ use Rattle.criterion.proofs.crossings.fill_crossings.Goals as goal
 pub bounds-strip-0 : goal.bounds-strip-0
 bounds-strip-0 g c =
     let d = g.L.Label.labels g.C.Charge.kind c.args.label.now in
-    omega (arith, c.requires, power-some d.q (some-letters d (g.L.Label.lawful g.C.Charge.kind c.args.label.now)) (d.k - 1))
+    omega (arith, c.requires, power-some d.q (some-letters d (g.L.Label.lawful g.C.Charge.kind c.args.label.now)) (d.m - 1))
 
 pub loop-v-init : goal.loop-v-init
 loop-v-init g c =
     let K = g.C.Charge.kind in
     let d = g.L.Label.labels K c.args.label.now in
-    let some = power-some d.q (some-letters d (g.L.Label.lawful K c.args.label.now)) (d.k - 1) in (
+    let some = power-some d.q (some-letters d (g.L.Label.lawful K c.args.label.now)) (d.m - 1) in (
       omega arith,
-      fill_more K.means (λ v. J K 0 d (word d.q (d.k - 1) v)) c.args.strip.now 0 c.crossing.result
+      fill_more K.means (λ v. J K 0 d (word d.q (d.m - 1) v)) c.args.strip.now 0 c.crossing.result
           (omega (arith, c.requires, some))
-          (c.crossing.ensures ∙ get_or-table (d.q ^ (d.k - 1)) (λ v. J K 0 d (word d.q (d.k - 1) v)) K.group.zero 0 some) refl,
+          (c.crossing.ensures ∙ get_or-table (d.q ^ (d.m - 1)) (λ v. J K 0 d (word d.q (d.m - 1) v)) K.group.zero 0 some) refl,
     )
 
 pub loop-v-preserved : goal.loop-v-preserved
@@ -29,7 +29,7 @@ loop-v-preserved g c =
     let K = g.C.Charge.kind in
     let d = g.L.Label.labels K c.args.label.now in
     let some = some-letters d (g.L.Label.lawful K c.args.label.now) in
-    let J_at = λ (v : ℕ). J K 0 d (word d.q (d.k - 1) v) in
+    let J_at = λ (v : ℕ). J K 0 d (word d.q (d.m - 1) v) in
     let v : ℕ = c.loop-v.v in
     let shorter : v / d.q < v = div-lt_self (omega arith) (omega (arith, (g.L.Label.lawful K c.args.label.now).sizes.0)) in
     let front : v / c.q-q.result ≡ v / d.q = ap (λ q. v / q) c.q-q.ensures in
@@ -45,6 +45,6 @@ pub returns : goal.returns
 returns g c =
     let K = g.C.Charge.kind in
     let d = g.L.Label.labels K c.args.label.now in
-    let some = power-some d.q (some-letters d (g.L.Label.lawful K c.args.label.now)) (d.k - 1) in
-    let all : c.loop-v.v ≡ d.q ^ (d.k - 1) = omega (arith, some, c.requires, length-set c.args.strip.now 0 c.crossing.result) in
-    ap (map K.means) (sym (take_all c.loop-v.v c.loop-v.strip (omega arith))) ∙ c.loop-v.invariant.1 ∙ ap (λ n. table n (λ v. J K 0 d (word d.q (d.k - 1) v))) all
+    let some = power-some d.q (some-letters d (g.L.Label.lawful K c.args.label.now)) (d.m - 1) in
+    let all : c.loop-v.v ≡ d.q ^ (d.m - 1) = omega (arith, some, c.requires, length-set c.args.strip.now 0 c.crossing.result) in
+    ap (map K.means) (sym (take_all c.loop-v.v c.loop-v.strip (omega arith))) ∙ c.loop-v.invariant.1 ∙ ap (λ n. table n (λ v. J K 0 d (word d.q (d.m - 1) v))) all

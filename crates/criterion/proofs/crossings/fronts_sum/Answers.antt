@@ -15,7 +15,7 @@ loop-preserved g c =
 pub returns-clause-left : goal.returns-clause-left
 returns-clause-left g c =
     let d = g.L.Label.labels g.C.Charge.kind c.args.label.now in
-    let all : c.loop.counter ≡ d.k - 1 = omega arith in
+    let all : c.loop.counter ≡ d.m - 1 = omega arith in
     c.loop.invariant.0 ∙ ap (λ n. c.args.v / d.q ^ n) all
 
 pub returns-clause-sum : goal.returns-clause-sum
