@@ -22,7 +22,7 @@ use Rattle.criterion.proofs.LabelLaw.{label_law}
 use Rattle.bench.specs.Labels.{listed, rule_label, two_label, two_label_list}
 use Rattle.bench.specs.Benches.{Bench, total_before, total_after, label_of}
 use Rattle.bench.specs.Laws.{Agree, Apart, VerdictRight, ComparisonRight}
-use Rattle.bench.specs.Sized.{listed-labelled}
+use Rattle.bench.specs.KeptSizes.{listed-labelled}
 use Rattle.bench.specs.Verdicts.{fitting, bench_checked, pair_checked, judge_found, compare_found}
 use Rattle.bench.proofs.Gains.{step_gains, two_gains}
 

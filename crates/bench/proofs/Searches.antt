@@ -18,7 +18,7 @@ use Rattle.criterion.specs.ChargeStrips.{FrontMeans}
 use Rattle.bench.specs.Labels.{rule_label_list, two_label, two_label_list, listed}
 use Rattle.bench.specs.Benches.{Bench}
 use Rattle.bench.specs.Laws.{VerdictRight, ComparisonRight}
-use Rattle.bench.specs.Sized.{SizesOf, sized_rule, sized_density, first_sized, second_sized}
+use Rattle.bench.specs.KeptSizes.{SizesOf, sized_rule, sized_density, first_sized, second_sized}
 use Rattle.bench.specs.Verdicts.{ShownRing, bench_checked, fitting, Found, Lent, Leaves, judge_found, judge_break, compare_found}
 use Rattle.bench.specs.declared.sizes.RuleSizes.{RuleSizes}
 use Rattle.bench.specs.declared.sizes.TwoSizes.{TwoSizes}
@@ -75,7 +75,7 @@ two_list-same {C} K s d e eq e1 e2 eq' em =
     second : second_sized s e ≡ e
     second i = record { q = eq' i; k = e2 i; charges = e.charges }
 
--- The ring that a call has shown, where it answers a failing word and a length: what the strip holds in its at_front.
+-- The ring that a call has shown, where it answers a failing word and a length: what the strip holds at its front.
 pub record Shown (q : ℕ) (found : Result (Option (ℕ × List ℕ)) Refusal) (word len : ℕ) (strip : List ℕ) : Type 0 where
   pub ring : List ℕ
   pub is : found ≡ Ok (Some (word, ring))

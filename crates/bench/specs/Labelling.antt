@@ -8,7 +8,7 @@ use Rattle.criterion.specs.Labelled.{LabelList, Labelled}
 use Rattle.bench.specs.declared.rule_label.RuleLabel.{RuleLabel}
 use Rattle.bench.specs.declared.two_label.TwoLabel.{TwoLabel}
 use Rattle.bench.specs.Labels.{rule_label, rule_label_list, two_label, listed}
-use Rattle.bench.specs.Sized.{sized_rule, sized_density, first_sized, second_sized, words-labelled}
+use Rattle.bench.specs.KeptSizes.{sized_rule, sized_density, first_sized, second_sized, words-labelled}
 
 -- a rule under a density
 module _ {C R D : Type 0} {r : RuleOf R} (d : DensityOf D C) (K : Kind C) (t : RuleLabel R D r) where

@@ -1,6 +1,6 @@
 // What a bench that holds is asked by a player.
 ghost use Rattle.std.specs.Prelude.{◌≡◌, ◌+◌, ◌-◌, ◌≤◌, length};
-ghost use Rattle.bench.specs.Sized.{KnowsNext};
+ghost use Rattle.bench.specs.KeptSizes.{KnowsNext};
 
 use crate::next_words::NextWords;
 use crate::rule_label::RuleLabel;

@@ -2,7 +2,7 @@
 // are the crate's own as well: they are about these very numbers.
 ghost use Rattle.std.specs.Prelude.{◌≡◌, ◌+◌, ◌-◌, ◌/◌, ◌%◌, ◌^◌, ◌<◌, ◌*◌, max, length, replicate, slice_index};
 ghost use Rattle.fault.specs.Limits.{most_words};
-ghost use Rattle.bench.specs.Sized.{sized_rule, next_word, KnowsNext};
+ghost use Rattle.bench.specs.KeptSizes.{sized_rule, next_word, KnowsNext};
 
 use crate::sizes::RuleSizes;
 use crate::state::BenchParts;
@@ -42,13 +42,13 @@ impl<R: Rule, D> BenchParts<R, D> {
     pub(crate) fn next_code(&self, sizes: RuleSizes, code: usize) -> usize
         ensures { result ≡ next_word sizes (R.meaning self.now.rule) code }
     {
-        let mut front = code;
+        let mut prefix = code;
         let mut place = 1;
         let mut next = 0;
         for _ in 0..sizes.k {
-            next += self.last_letter(sizes, front) as usize * place;
+            next += self.last_letter(sizes, prefix) as usize * place;
             place *= sizes.words.q;
-            front /= sizes.words.q;
+            prefix /= sizes.words.q;
         }
         next
     }

@@ -1,6 +1,6 @@
 // The label of a rule under a density.
 ghost use Rattle.std.specs.Prelude.{◌≡◌, ◌+◌, ◌-◌, ◌/◌, ◌%◌, ◌^◌, ◌<◌, ◌≤◌, length, slice_index, MatchOption};
-ghost use Rattle.bench.specs.Sized.{next_word, KnowsNext};
+ghost use Rattle.bench.specs.KeptSizes.{next_word, KnowsNext};
 
 use crate::sizes::RuleSizes;
 use crate::state::BenchParts;

@@ -1,7 +1,7 @@
 // The states of a bench, moved from call to call: drafted, and after its one verdict holding or breaking.
 ghost use Rattle.std.specs.Prelude.{◌≡◌};
 ghost use Rattle.bench.specs.Laws.{NoneChanges, SomeChanges};
-ghost use Rattle.bench.specs.Sized.{SizesOf};
+ghost use Rattle.bench.specs.KeptSizes.{SizesOf};
 
 use crate::sizes::RuleSizes;
 use automaton::{Density, Rule};

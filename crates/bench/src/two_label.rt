@@ -33,8 +33,8 @@ impl<C: Charge, D: Density<C>, E: Density<C>> Label<C> for TwoLabel<'_, '_, D, E
         if code >= self.sizes.words.count {
             return C::zero();
         }
-        let weighed = self.first.charge(self.sizes.first_front.code(code));
-        let less = self.second.charge(self.sizes.second_front.code(code));
+        let weighed = self.first.charge(self.sizes.first_prefix.code(code));
+        let less = self.second.charge(self.sizes.second_prefix.code(code));
         difference(weighed, less)
     }
 }

@@ -76,11 +76,11 @@ module _ (G : Group) (z : ℕ) where
         (ap d (window-take z m (x ∷ v) (omega arith) ∙ take_all m (x ∷ v) (omega arith)))
         (sum_same G (λ i. d (window m (place z (x ∷ v)) (suc i))) (λ i. d (window m (place z v) i)) (length v)
         (λ i _. ap d (window_tail z m x v i))) in
-        let front : heads d m (x ∷ v) ≡ heads d m (take (m - 1) (x ∷ v)) =
+        let prefix : heads d m (x ∷ v) ≡ heads d m (take (m - 1) (x ∷ v)) =
         sum_same G (λ j. d (repeated z (m - 1 - j) ++ take (suc j) (x ∷ v))) (λ j. d (repeated z (m - 1 - j) ++ take (suc j) (take (m - 1) (x ∷ v)))) (m - 1)
         (λ j h. ap (λ t. d (repeated z (m - 1 - j) ++ t)) (sym (take-take (suc j) (m - 1) (x ∷ v) (omega arith)))) in
         ap₂ (minus G)
-        (pad-sum (x ∷ v) (omega arith) ∙ ap₂ G.add first front)
+        (pad-sum (x ∷ v) (omega arith) ∙ ap₂ G.add first prefix)
         (pad-sum v (omega arith))
         ∙ gap (d (x ∷ v)) (bodies v (length v)) (heads d m (take (m - 1) (x ∷ v))) (heads d m v)
 

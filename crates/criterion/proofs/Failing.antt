@@ -6,7 +6,7 @@ use Rattle.criterion.specs.Labelled.{LabelList, label_at, Labelled}
 use Rattle.automaton.proofs.Codes.{length-word, drop-word, code-word}
 use Rattle.criterion.specs.Search.{first_of, J, crossings, fails, failing}
 use Rattle.criterion.proofs.Sizes.{some-letters, one_more, code-within, heads-past}
-use Rattle.criterion.proofs.Fronts.{filled_at, filled-count}
+use Rattle.criterion.proofs.Prefixes.{filled_at, filled-count}
 
 -- the first number below n, from i on, that passes a test
 abbrev first_below : (ℕ → Bool) → ℕ → ℕ → Option ℕ
@@ -49,14 +49,14 @@ module _ {C : Type 0} (K : Kind C) (d : LabelList K.group.Carrier) (labelled : L
       ∙ drop-word d.q (some-letters d labelled) (d.m - 1) c
 
   -- the test of what stands in a strip of crossings is the test of the word
-  pub fails-at : (strip : List C) (head : ℕ) (front back crosses : C) (same : Bool) →
+  pub fails-at : (strip : List C) (head : ℕ) (first last crosses : C) (same : Bool) →
       map K.means strip ≡ crossings K 0 d →
       c / d.q ≡ head → head < length strip →
-      front ≡ get_or strip head front → back ≡ get_or strip (c % length strip) back →
-      K.means crosses ≡ minus K.group (K.means front) (K.means back) →
+      first ≡ get_or strip head first → last ≡ get_or strip (c % length strip) last →
+      K.means crosses ≡ minus K.group (K.means first) (K.means last) →
       Decides same (get_or d.charges c K.group.zero ≡ K.means crosses) →
       not same ≡ fails K 0 d (word d.q d.m c)
-  fails-at strip head front back crosses same filled is-head below at_front at_back crosses-is same-is =
+  fails-at strip head first last crosses same filled is-head below at_first at_last crosses-is same-is =
       let heads = length strip in
       let count : heads ≡ d.q ^ (d.m - 1) = filled-count K d strip filled in
       let G = K.group in
@@ -66,17 +66,17 @@ module _ {C : Type 0} (K : Kind C) (d : LabelList K.group.Carrier) (labelled : L
       let within : c < d.q ^ d.m =
       code-within d labelled c heads d.q count refl ((div-lt_iff_lt-mul some).0 (subst (λ v. v < heads) (sym is-head) below)) in
       let all : map K.means strip ≡ table heads at = filled ∙ ap (λ n. table n at) (sym count) in
-      let first : K.means front ≡ J K 0 d (take (d.m - 1) w) =
-      filled_at K.means at strip heads head front all below at_front
+      let prefix_is : K.means first ≡ J K 0 d (take (d.m - 1) w) =
+      filled_at K.means at strip heads head first all below at_first
       ∙ ap at (sym is-head)
       ∙ ap (J K 0 d) (sym take_head) in
-      let last : K.means back ≡ J K 0 d (drop 1 w) =
-      filled_at K.means at strip heads (c % heads) back all (mod-lt c (omega arith)) at_back
+      let rest_is : K.means last ≡ J K 0 d (drop 1 w) =
+      filled_at K.means at strip heads (c % heads) last all (mod-lt c (omega arith)) at_last
       ∙ ap (λ n. at (c % n)) count
       ∙ ap (J K 0 d) (sym drop-first) in
       let of_word : get_or d.charges c G.zero ≡ label_at G d w =
       ap (λ t. get_or d.charges t G.zero) (sym (code-word d.q some d.m c within)) in
-      let both : K.means crosses ≡ minus G (J K 0 d (take (d.m - 1) w)) (J K 0 d (drop 1 w)) = crosses-is ∙ ap₂ (minus G) first last in
+      let both : K.means crosses ≡ minus G (J K 0 d (take (d.m - 1) w)) (J K 0 d (drop 1 w)) = crosses-is ∙ ap₂ (minus G) prefix_is rest_is in
       ap not (decides-same same _
       (subst (λ y. Decides same (label_at G d w ≡ y)) both (subst (λ x. Decides same (x ≡ K.means crosses)) of_word same-is))
       (K.decides (label_at G d w) (minus G (J K 0 d (take (d.m - 1) w)) (J K 0 d (drop 1 w)))))

@@ -42,7 +42,7 @@ module _ {C : Type 0} (K : Kind C) (d : LabelList K.group.Carrier) where
         (subst (λ x. Decides same (x ≡ K.means nothing)) sum_is tested))
         (K.decides (ring_sum K.group (label_at K.group d) d.m ring) K.group.zero)
 
--- the word of code c at the at_front of 23 zeros, cut to the length of ring A
+-- the word of code c at the front of 23 zeros, cut to the length of ring A
 module _ {C : Type 0} (K : Kind C) (d : LabelList K.group.Carrier) (labelled : Labelled d) (c q m : ℕ) (cells : List ℕ)
     (same-q : q ≡ d.q) (same-m : m ≡ d.m) (written : cells ≡ at_front (word q m c) (replicate 23 0)) where
   abbrev cut : List ℕ

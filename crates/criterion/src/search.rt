@@ -29,7 +29,7 @@ fn code_of(q: usize, heads: usize, head: usize, last: usize) -> usize
     requires within { (head < heads) × (last < q) }
     ensures is { result ≡ head * q + last }
     ensures below { result < heads * q }
-    ensures front { result / q ≡ head }
+    ensures prefix { result / q ≡ head }
 {
     head * q + last
 }
@@ -48,7 +48,7 @@ fn labelled<C: Charge, L: Label<C>>(label: &L, code: usize, charge: C) -> bool
 fn fails<C: Charge, L: Label<C>>(label: &L, crossings: &[C], head: usize, code: usize) -> bool
     requires filled { map C.kind.means crossings.now
         ≡ crossings_of C.kind padding (L.labels C.kind label.now) }
-    requires front { (code / (L.labels C.kind label.now).q ≡ head)
+    requires prefix { (code / (L.labels C.kind label.now).q ≡ head)
         × (head < length crossings.now) }
     ensures { let d = L.labels C.kind label.now in
         result ≡ fails_at C.kind padding d (word d.q d.m code) }

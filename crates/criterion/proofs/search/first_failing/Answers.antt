@@ -1,6 +1,6 @@
 use Rattle.std.proofs.Common.{length, arith}
 use Rattle.criterion.proofs.Sizes.{heads-few}
-use Rattle.criterion.proofs.Fronts.{filled-count}
+use Rattle.criterion.proofs.Prefixes.{filled-count}
 use Rattle.criterion.proofs.Failing.{search_more, search-stop, search_end}
 use Rattle.criterion.proofs.search.first_failing.Goals as goal
 

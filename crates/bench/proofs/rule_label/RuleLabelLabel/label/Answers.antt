@@ -1,6 +1,6 @@
 use Rattle.std.proofs.Common.{ap₂, arith, refl, subst, sym, ◌%◌, ◌+◌, ◌-◌, ◌/◌, ◌<◌, ◌^◌, ◌∙◌, ◌≡◌, ◌≤◌}
 use Rattle.bench.specs.Labels.{rule_label}
-use Rattle.bench.specs.Sized.{sized_rule, sized_density}
+use Rattle.bench.specs.KeptSizes.{sized_rule, sized_density}
 use Rattle.bench.proofs.Coded.{listed-past, rule-entry}
 use Rattle.bench.proofs.rule_label.RuleLabelLabel.label.Goals as goal
 
