@@ -1,11 +1,10 @@
 // The bench, and its one verdict.
 ghost use Rattle.std.specs.Prelude.{◌≡◌, length, Ok};
 ghost use Rattle.automaton.specs.Making.{charged};
-ghost use Rattle.criterion.specs.Answers.{failure_seen, with_length};
 ghost use Rattle.bench.specs.Answers.{breaks_mean, verdict_means, draft_said, found_said, broken_said};
-ghost use Rattle.bench.specs.Benches.{bench_of, total_before, total_after};
+ghost use Rattle.bench.specs.Benches.{bench_of, label_of, total_before, total_after};
 ghost use Rattle.bench.specs.Laws.{KnownBy};
-ghost use Rattle.bench.specs.Promises.{Judges};
+ghost use Rattle.bench.specs.Promises.{SearchesWords, Judges};
 ghost use Rattle.bench.specs.States.{draft_bench, draft_parts, judged_parts, HandsIn, HandsOn};
 ghost use Rattle.bench.specs.Verdicts.{ShownRing, bench_checked, broken, lent, judge_found, judge_break, JudgeLeaves, verdict_of};
 
@@ -88,10 +87,10 @@ impl<C: Charge, R: Rule, D: Density<C>> Draft<C, R, D> {
     // word's label is asked for more than once. The two strips make no struct: clauses would reach each of them through two
     // references.
     fn judge_words(&self, crossings: &mut [C], ring: &mut [u8]) -> Result<Option<Failure>, Fault>
-        ensures answer { let b = draft_bench self.now in
-            failure_seen result ≡ with_length (judge_found b (length crossings.old) (length ring.old)) }
-        ensures left { JudgeLeaves (draft_bench self.now)
-            (lent crossings.old ring.old) (lent crossings.new ring.new) }
+        ensures { let b = draft_bench self.now in
+            let found = judge_found b (length crossings.old) (length ring.old) in
+            SearchesWords C.kind found (label_of b)
+            (lent crossings.old ring.old) result (lent crossings.new ring.new) }
     {
         let mut room = NextWords::new();
         let label = RuleLabel {
