@@ -58,9 +58,19 @@ fn differ_on<C: Charge, D: Density<C>, E: Density<C>>(
     }))
 }
 
-// Whether the two densities agree on the total of every ring of any length, or else the word that fails and a ring with
-// two totals. Fills the front of one strip with the crossings, and where the densities differ writes that ring to the
-// front of the other. The strips make no struct, as for the judge.
+/// Whether two densities agree on the total of every ring of any length.
+///
+/// With m as the larger of the two widths, the crossings of the words of m - 1 letters go to the front of `crossings`, in
+/// the order of the codes. Where the densities differ, a ring that has two totals is written to the front of `ring`.
+///
+/// Refused, with nothing written and always at place 0: by `Stop::AlphabetsDiffer`; by `Stop::TooManyWords`, where q^m is
+/// above 4,096; by `Stop::ShortStrip`, where `crossings` has fewer than q^(m - 1) charges or `ring` fewer than 2 m - 1 cells.
+///
+/// ```rust
+/// if let Comparison::Differ(found) = compare(&first, &second, &mut crossings, &mut ring)? {
+///     // the total of `ring[..found.len]` is `found.first` under one density and `found.second` under the other
+/// }
+/// ```
 pub fn compare<C: Charge, D: Density<C>, E: Density<C>>(
     first: &D,
     second: &E,

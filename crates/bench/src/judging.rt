@@ -18,7 +18,7 @@ use criterion::{Failure, MOST_SHOWN, examine};
 use fault::Fault;
 use std::marker::PhantomData;
 
-// What a draft is once it is judged.
+/// What a draft is once it is judged: a bench that holds, or one that breaks, with the break.
 pub type Judged<C, R, D> = Verdict<C, Holding<C, R, D>, Breaking<C, R, D>>;
 
 // The bench in the state that a break, or none, puts it into.
@@ -38,7 +38,10 @@ fn verdict_of<C: Charge, R: Rule, D: Density<C>>(
 }
 
 impl<C: Charge, R: Rule, D: Density<C>> Draft<C, R, D> {
-    // A bench of a rule and a density over one alphabet, whose words are few.
+    /// A bench of a rule and a density.
+    ///
+    /// Refused, with both handed back: by `Stop::AlphabetsDiffer` at place 0, then by `Stop::TooManyWords` at place 0, where
+    /// there are more than 4,096 words of n + k - 1 letters.
     pub fn new(rule: R, density: D) -> Result<Draft<C, R, D>, Refused<BenchParts<R, D>>>
         ensures answer { draft_said result
             ≡ bench_checked (bench_of C.kind (R.meaning rule) (D.weights C.kind density)) }
@@ -84,8 +87,7 @@ impl<C: Charge, R: Rule, D: Density<C>> Draft<C, R, D> {
     }
 
     // The first word that fails under the label, on lent strips. The next letters of all words are found first, since each
-    // word's label is asked for more than once. The two strips make no struct: clauses would reach each of them through two
-    // references.
+    // word's label is asked for more than once.
     fn judge_words(&self, crossings: &mut [C], ring: &mut [u8]) -> Result<Option<Failure>, Fault>
         ensures { let b = draft_bench self.now in
             let found = judge_found b (length crossings.old) (length ring.old) in
@@ -114,8 +116,20 @@ impl<C: Charge, R: Rule, D: Density<C>> Draft<C, R, D> {
         Ok(Some(self.break_on(word, &ring[..len])?))
     }
 
-    // Whether some ring of any length changes its total in a step. Fills the front of one strip with the crossings,
-    // and on a break writes the ring that shows it to the front of the other. Only a strip too short is refused.
+    /// Whether some ring of any length changes its total in a step.
+    ///
+    /// With m = n + k - 1, the crossings of the words of m - 1 letters go to the front of `crossings`, in the order of the
+    /// codes. On a break a ring that changes its total is written to the front of `ring`.
+    ///
+    /// Refused, with nothing written and the draft handed back, by `Stop::ShortStrip` at place 0 alone: where `crossings` has
+    /// fewer than q^(m - 1) charges or `ring` fewer than 2 m - 1 cells, whatever the verdict is.
+    ///
+    /// ```rust
+    /// match Draft::new(rule, density)?.judge(&mut crossings, &mut ring)? {
+    ///     Verdict::Holds(bench) => {} // no ring changes its total: `bench` may be played
+    ///     Verdict::Breaks(_, found) => {} // `ring[..found.len]` goes from `found.first` to `found.second`
+    /// }
+    /// ```
     pub fn judge(
         self,
         crossings: &mut [C],

@@ -1,5 +1,4 @@
-// The next letters of words, by codes. The clauses of the crate's own functions here name the fields of `RuleSizes`, which
-// are the crate's own as well: they are about these very numbers.
+// The next letters of words, by codes.
 ghost use Rattle.std.specs.Prelude.{◌≡◌, ◌+◌, ◌-◌, ◌/◌, ◌%◌, ◌^◌, ◌<◌, ◌*◌, max, length, replicate, slice_index};
 ghost use Rattle.fault.specs.Limits.{most_words};
 ghost use Rattle.bench.specs.KeptSizes.{sized_rule, next_word, KnowsNext};
@@ -9,7 +8,7 @@ use crate::state::BenchParts;
 use automaton::Rule;
 use fault::limits::MOST_WORDS;
 
-// Room for the next letters of all words of a label: an array, since nothing here is on the heap.
+/// Room for the next letters of all words of a label, of which there are at most 4,096: 8 KiB, and nothing on the heap.
 #[derive(Drop)]
 pub struct NextWords {
     pub(crate) codes: [u16; MOST_WORDS as usize],
@@ -18,6 +17,7 @@ pub struct NextWords {
 impl NextWords {
     ghost use Rattle.bench.specs.States.{codes_in};
 
+    /// Room in which no next letters are known.
     pub fn new() -> NextWords
         ensures { codes_in result ≡ replicate most_words 0 }
     {

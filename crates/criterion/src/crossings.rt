@@ -34,8 +34,10 @@ fn prefixes_sum<C: Charge, L: Label<C>>(label: &L, v: usize) -> (C, usize)
     (sum, prefix)
 }
 
-// The crossing of the word of m - 1 letters with this code, and zero past the last code. Inlined, like the sum, since it is
-// asked for site by site, and what the label keeps is then loaded once.
+/// The crossing J of the word of m - 1 letters with this code, and zero from code q^(m - 1) on.
+///
+/// It is found from the label each time, which asks for m - 1 charges; `examine` fills a table of all crossings.
+// Inlined, like the sum, since it is asked for site by site, and what the label keeps is then loaded once.
 #[inline(always)]
 pub fn crossing<C: Charge, L: Label<C>>(label: &L, code: usize) -> C
     ensures { let all = crossings C.kind padding (L.labels C.kind label.now) in

@@ -9,8 +9,9 @@ use automaton::{Density, total};
 use charge::Charge;
 use fault::Fault;
 
-// The longest ring that is shown: a word of 12 letters and 11 zeros. Arrays of so many cells hold it, since nothing here
-// is on the heap.
+/// How many cells the longest ring has that is shown: a word of 12 letters and 11 zeros.
+///
+/// A strip of so many cells, such as `[0u8; MOST_SHOWN]`, is never too short for one.
 pub const MOST_SHOWN: usize = 23;
 
 // Writes the word of a code, of as many letters as there is room for. The range is reversed, and not the slots: of
