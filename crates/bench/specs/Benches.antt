@@ -30,8 +30,8 @@ module _ {C : Type 0} {K : Kind C} (b : Bench K) where
   abbrev pub crossings_of : List K.group.Carrier
   crossings_of = crossings K padding label_of
 
-  -- what crosses into site i of a ring of letters below q in a step: the crossing of the m - 1 cells from l cells before
-  -- cell i on, by their code
+  -- what crosses into site i of a ring of letters below q in a step: the crossing of the m - 1 cells from l cells
+  -- before cell i on, by their code
   abbrev pub crossing_into : ℕ → List ℕ → ℕ → K.group.Carrier
   crossing_into q c i =
       slice_index_or crossings_of (code q (window (b.rule.n + b.density.k - 2) (cell c) (before (length c) b.rule.l i))) K.group.zero

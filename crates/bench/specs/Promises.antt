@@ -18,8 +18,8 @@ use Rattle.bench.specs.Laws.{VerdictRight, VerdictWhole, ComparisonRight, Compar
 use Rattle.bench.specs.Verdicts.{Found, Lent, Leaves, judge_found, judging, JudgeLeaves, compare_found, comparing, CompareLeaves}
 use Rattle.bench.specs.Unbounded.{VerdictUnbounded, ComparisonUnbounded}
 
--- Searching the words of a label, by what is found: the failing word's code and the length of the ring that shows it are
--- answered, and the crossings and that ring are left on the strips.
+-- Searching the words of a label, by what is found: the failing word's code and the length of the ring that shows it
+-- are answered, and the crossings and that ring are left on the strips.
 pub record SearchesWords {C : Type 0} (K : Kind C) (found : Found) (label : LabelList K.group.Carrier) (old : Lent C) (result : Result (Option Failure) Fault) (new : Lent C) : Type 0 where
   pub answer : failure_seen result ≡ with_length found
   pub left : Leaves K found (crossings K padding label) old new

@@ -60,11 +60,12 @@ fn differ_on<C: Charge, D: Density<C>, E: Density<C>>(
 
 /// Whether two densities agree on the total of every ring of any length.
 ///
-/// With m as the larger of the two widths, the crossings of the words of m - 1 letters go to the front of `crossings`, in
-/// the order of the codes. Where the densities differ, a ring that has two totals is written to the front of `ring`.
+/// With m as the larger of the two widths, the crossings of the words of m - 1 letters go to the front of `crossings`,
+/// in the order of the codes. Where the densities differ, a ring that has two totals is written to the front of `ring`.
 ///
-/// Refused, with nothing written and always at place 0: by `Stop::AlphabetsDiffer`; by `Stop::TooManyWords`, where q^m is
-/// above 4,096; by `Stop::ShortStrip`, where `crossings` has fewer than q^(m - 1) charges or `ring` fewer than 2 m - 1 cells.
+/// Refused, with nothing written and always at place 0: by `Stop::AlphabetsDiffer`; by `Stop::TooManyWords`, where q^m
+/// is above 4,096; by `Stop::ShortStrip`, where `crossings` has fewer than q^(m - 1) charges or `ring` has fewer than
+/// 2 m - 1 cells.
 ///
 /// ```rust
 /// if let Comparison::Differ(found) = compare(&first, &second, &mut crossings, &mut ring)? {

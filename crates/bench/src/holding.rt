@@ -39,8 +39,9 @@ impl<C: Charge, R: Rule, D: Density<C>> Holding<C, R, D> {
 
     /// What crosses into the sites of rings in a step.
     ///
-    /// `sites` is how many sites will be asked for, and decides only how fast they are answered: where so many ask for more
-    /// labels than there are words, the next letters of all words are found first, in `room`. What is left in it is open.
+    /// `sites` is how many sites will be asked for, and decides only how fast they are answered: where so many ask for
+    /// more labels than there are words, the next letters of all words are found first, in `room`. What is left in it
+    /// is open.
     pub fn crossings<'a>(
         &'a self,
         sites: usize,

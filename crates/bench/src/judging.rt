@@ -40,8 +40,8 @@ fn verdict_of<C: Charge, R: Rule, D: Density<C>>(
 impl<C: Charge, R: Rule, D: Density<C>> Draft<C, R, D> {
     /// A bench of a rule and a density.
     ///
-    /// Refused, with both handed back: by `Stop::AlphabetsDiffer` at place 0, then by `Stop::TooManyWords` at place 0, where
-    /// there are more than 4,096 words of n + k - 1 letters.
+    /// Refused, with both handed back: by `Stop::AlphabetsDiffer` at place 0, then by `Stop::TooManyWords` at place 0,
+    /// where there are more than 4,096 words of n + k - 1 letters.
     pub fn new(rule: R, density: D) -> Result<Draft<C, R, D>, Refused<BenchParts<R, D>>>
         ensures answer { draft_said result
             ≡ bench_checked (bench_of C.kind (R.meaning rule) (D.weights C.kind density)) }
@@ -86,8 +86,8 @@ impl<C: Charge, R: Rule, D: Density<C>> Draft<C, R, D> {
         })
     }
 
-    // The first word that fails under the label, on lent strips. The next letters of all words are found first, since each
-    // word's label is asked for more than once.
+    // The first word that fails under the label, on lent strips. The next letters of all words are found first, since
+    // each word's label is asked for more than once.
     fn judge_words(&self, crossings: &mut [C], ring: &mut [u8]) -> Result<Option<Failure>, Fault>
         ensures { let b = draft_bench self.now in
             let found = judge_found b (length crossings.old) (length ring.old) in
@@ -118,11 +118,11 @@ impl<C: Charge, R: Rule, D: Density<C>> Draft<C, R, D> {
 
     /// Whether some ring of any length changes its total in a step.
     ///
-    /// With m = n + k - 1, the crossings of the words of m - 1 letters go to the front of `crossings`, in the order of the
-    /// codes. On a break a ring that changes its total is written to the front of `ring`.
+    /// With m = n + k - 1, the crossings of the words of m - 1 letters go to the front of `crossings`, in the order of
+    /// the codes. On a break a ring that changes its total is written to the front of `ring`.
     ///
-    /// Refused, with nothing written and the draft handed back, by `Stop::ShortStrip` at place 0 alone: where `crossings` has
-    /// fewer than q^(m - 1) charges or `ring` fewer than 2 m - 1 cells, whatever the verdict is.
+    /// Refused, with nothing written and the draft handed back, by `Stop::ShortStrip` at place 0 alone: where
+    /// `crossings` has fewer than q^(m - 1) charges or `ring` fewer than 2 m - 1 cells, whatever the verdict is.
     ///
     /// ```rust
     /// match Draft::new(rule, density)?.judge(&mut crossings, &mut ring)? {

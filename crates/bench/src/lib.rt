@@ -1,8 +1,8 @@
 // The bench: labels of rules and densities, the judge and the comparison. Assumes nothing.
 //
-// The strips that a call is lent, for crossings and for a ring, make no struct here or in the crates below: clauses would
-// reach each of them through two references. Clauses of the crate's own functions may name the private fields of what they
-// take, such as the sizes that a label keeps; those of public functions name none.
+// The strips that a call is lent, for crossings and for a ring, make no struct here or in the crates below: clauses
+// would reach each of them through two references. Clauses of the crate's own functions may name the private fields of
+// what they take, such as the sizes that a label keeps; those of public functions name none.
 #![tactic(auto)]
 
 mod comparing;

@@ -53,8 +53,8 @@ impl<R: Rule, D> BenchParts<R, D> {
         next
     }
 
-    // Writes the next words of the words that are `head` with one letter more, of which all but the last next letter are
-    // the last next letters of `head`.
+    // Writes the next words of the words that are `head` with one letter more, of which all but the last next letter
+    // are the last next letters of `head`.
     fn extend(&self, sizes: RuleSizes, head: usize, strip: &mut [u16])
         requires rule { sized_rule sizes (R.meaning self.now.rule) ≡ R.meaning self.now.rule }
         requires word { (length strip.old ≡ sizes.words.count)

@@ -8,8 +8,8 @@ use automaton::{Density, Rule};
 use charge::{Charge, difference};
 use criterion::Label;
 
-/// The label of a rule under a density, on words of n + k - 1 letters: the density on the k next letters less the density on
-/// the k letters that stood there.
+/// The label of a rule under a density, on words of n + k - 1 letters: the density on the k next letters less the
+/// density on the k letters that stood there.
 // It finds the next letters of a word in a table of those of the first words, and asks the rule for those of others.
 #[derive(Drop)]
 pub struct RuleLabel<'a, R: Rule, D> {

@@ -11,9 +11,10 @@ use charge::Charge;
 use fault::limits::word_count;
 use fault::{Fault, Stop};
 
-// The sizes of the label of a rule under a density: its words, the rule's window and reach, and the density's width; the
-// part of a word that the density weighs before the step; and how many words there are of a window, and of the next letters
-// but one. A label keeps sizes of its own, since its laws are for every `Kind` of its charges, and the tests for one.
+// The sizes of the label of a rule under a density: its words, the rule's window and reach, and the density's width;
+// the part of a word that the density weighs before the step; and how many words there are of a window, and of the next
+// letters but one. A label keeps sizes of its own, since its laws are for every `Kind` of its charges, and the tests
+// for one.
 #[derive(Clone, Copy)]
 pub struct RuleSizes {
     pub(crate) words: WordSet,

@@ -18,7 +18,8 @@ pub struct BenchParts<R, D> {
     pub density: D,
 }
 
-/// A bench that has not been judged: a rule and a density over one alphabet, with at most 4,096 words of n + k - 1 letters.
+/// A bench that has not been judged: a rule and a density over one alphabet, with at most 4,096 words of the
+/// n + k - 1 letters that a label takes.
 #[derive(Drop)]
 pub struct Draft<C: Charge, R: Rule, D: Density<C>> {
     pub(crate) parts: BenchParts<R, D>,
@@ -53,7 +54,7 @@ pub struct Breaking<C: Charge, R: Rule, D: Density<C>> {
         (D.weights C.kind parts.density) },
 }
 
-/// A failing word, and two totals of the ring that shows it, which stands at the front of the strip that the caller lent.
+/// A failing word, and two totals of the ring that shows it. The ring is at the front of the strip that was lent.
 #[derive(Clone, Copy, PartialEq, Eq, Debug)]
 pub struct Break<C> {
     /// The code of the word: its value in base q, the first letter as the highest digit.
@@ -114,7 +115,7 @@ impl<C: Drop> Comparison<C> {
     }
 }
 
-/// A refusal, with what was handed over as it stood. In a function that answers a `Fault`, `?` hands on the refusal alone.
+/// A refusal, with what was handed over as it stood. `?` makes a `Fault` of it, and lets go of the rest.
 #[derive(Drop)]
 pub struct Refused<S> {
     /// What was handed over, unchanged.

@@ -6,8 +6,8 @@ use automaton::Density;
 use charge::{Charge, difference};
 use criterion::Label;
 
-/// The label of two densities, on words of as many letters as the larger width has: the first density less the second, each
-/// on the leading letters of a word.
+/// The label of two densities, on words of as many letters as the larger width has: the first density less the second,
+/// each on the leading letters of a word.
 #[derive(Drop)]
 pub struct TwoLabel<'a, 'b, D, E> {
     pub(crate) first: &'a D,

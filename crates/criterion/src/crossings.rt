@@ -14,8 +14,8 @@ pub(crate) fn head_count<C: Charge, L: Label<C>>(label: &L) -> usize
     label.q().pow((label.m() - 1) as u32)
 }
 
-// The sum of the labels of a word's prefixes, of which the crossing is the opposite: padded with zeros, these have the codes
-// of v without its last letters. Of the code of a word of m - 1 letters nothing is left then.
+// The sum of the labels of a word's prefixes, of which the crossing is the opposite: padded with zeros, these have the
+// codes of v without its last letters. Of the code of a word of m - 1 letters nothing is left then.
 #[inline(always)]
 fn prefixes_sum<C: Charge, L: Label<C>>(label: &L, v: usize) -> (C, usize)
     ensures left { let d = L.labels C.kind label.now in
@@ -55,8 +55,8 @@ fn next_crossing<C: Charge>(prefix: C, zeros: C, whole: C) -> C
     prefix.plus(difference(zeros, whole))
 }
 
-// Fills a strip of as many charges with the crossings, each from that of its word's prefix: J(v) = J(v / q) - d(v) + d(0),
-// so that one label is asked for a word. By index, since a prefix stands before its word in the strip.
+// Fills a strip of as many charges with the crossings, each from that of its word's prefix: J(v) = J(v / q)
+// - d(v) + d(0), so that one label is asked for a word. By index, since a prefix stands before its word in the strip.
 pub(crate) fn fill_crossings<C: Charge, L: Label<C>>(label: &L, strip: &mut [C])
     requires { let d = L.labels C.kind label.now in
         length strip.old ≡ d.q ^ (d.m - 1) }

@@ -8,8 +8,8 @@ use charge::Charge;
 
 /// A label: a charge for each word of m letters below q, where q is 2 to 8, m is 1 to 12 and q^m is at most 4,096.
 ///
-/// A word is given by its code, its value in base q with the first letter as the highest digit. An implementer says by the
-/// ghost member `labels` what the label is, and answers it by `q`, `m` and `label`.
+/// A word is given by its code, its value in base q with the first letter as the highest digit. An implementer says by
+/// the ghost member `labels` what the label is, and answers it by `q`, `m` and `label`.
 ///
 /// A label is no `Density`, though the members of both are alike, so that neither can be handed over for the other.
 pub trait Label<C: Charge> {

@@ -24,8 +24,8 @@ pub struct Failure {
     pub len: usize,
 }
 
-// The code of the word with the first letters of code `head` and the letter `last`. The bounds stand here, since a label's
-// methods answer plain numbers.
+// The code of the word with the first letters of code `head` and the letter `last`. The bounds stand here, since a
+// label's methods answer plain numbers.
 fn code_of(q: usize, heads: usize, head: usize, last: usize) -> usize
     requires small { (q ≤ 8) × (heads ≤ 4096) }
     requires within { (head < heads) × (last < q) }
@@ -95,12 +95,12 @@ fn check_room<C: Charge, L: Label<C>>(
 
 /// Whether a word fails under a label: its charge is not the crossing of its first m - 1 letters less that of its last.
 ///
-/// The crossings of all words of m - 1 letters go to the front of `crossings`, in the order of the codes. If a word fails,
-/// the one with the smallest code is answered, and a ring on whose windows the labels do not sum to zero is written to the
-/// front of `ring`. Where none is answered, the labels sum to zero on the rings of every length.
+/// The crossings of all words of m - 1 letters go to the front of `crossings`, in the order of the codes. If a word
+/// fails, the one with the smallest code is answered, and a ring on whose windows the labels do not sum to zero is
+/// written to the front of `ring`. Where none is answered, the labels sum to zero on the rings of every length.
 ///
-/// Refused by `Stop::ShortStrip` at place 0 where `crossings` has fewer than q^(m - 1) charges or `ring` fewer than 2 m - 1
-/// cells, of which `MOST_SHOWN` are always enough. Then nothing is written.
+/// Refused by `Stop::ShortStrip` at place 0 where `crossings` has fewer than q^(m - 1) charges or `ring` fewer than 2 m
+/// - 1 cells, of which `MOST_SHOWN` are always enough. Then nothing is written.
 ///
 /// ```rust
 /// if let Some(Failure { word, len }) = examine(&label, &mut crossings, &mut ring)? {
