@@ -22,8 +22,7 @@ pub record Lawful (r : Local) : Type 0 where
   pub each : length r.answers ≡ r.q ^ r.n
   pub letters : Letters r.q r.answers
 
--- A density: q letters, and a charge for each word of k letters, in the order of the codes. A label has the same
--- type.
+-- A density: q letters, and a charge for each word of k letters, in the order of the codes.
 pub record Weights (A : Type 0) : Type 0 where
   pub q : ℕ
   pub k : ℕ

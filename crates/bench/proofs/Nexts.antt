@@ -1,4 +1,4 @@
--- The next letters of a word, by those of its front. Assumes nothing.
+-- The next letters of a word, by those of its prefix. Assumes nothing.
 use Rattle.std.proofs.Common.{mul_assoc, add_assoc, add_comm, zero-mul, add-one, refl, [], ◌∷◌, ◌≡◌, ℕ, suc, ◌+◌, ◌-◌, ◌*◌, ◌/◌, ◌%◌, ◌^◌, ◌<◌, ◌≤◌, max, List, length, get_or, take, drop, set, ⊎_elim, sym, ap, ◌∙◌, ap₂, subst, mod-lt, mul_comm, pow-suc, div-one, arith, mul-le-mul_left, mul-le-mul_right}
 use native.Mathlib.Nat.{add-mul, pow-le-pow_right, pow-zero, div-div-eq-div-mul}
 use Rattle.std.proofs.lemmas.Bool.{cases_lt}
@@ -15,7 +15,7 @@ use Rattle.automaton.proofs.Steps.{letters_any}
 use lib.Arith.{digits_lt, digits_div, digits_mod, mod-mul}
 use Rattle.bench.specs.declared.sizes.RuleSizes.{RuleSizes}
 use Rattle.bench.specs.Labels.{next_letters}
-use Rattle.bench.specs.Sized.{sized_rule, next_word, KnowsNext}
+use Rattle.bench.specs.KeptSizes.{sized_rule, next_word, KnowsNext}
 
 -- a word without its first letter, by codes
 code-drop : (q : ℕ) → 0 < q → (p : ℕ) (w : List ℕ) → Word q (suc p) w → code q (drop 1 w) ≡ code q w % q ^ p
@@ -24,7 +24,7 @@ code-drop q some p w is =
     ∙ ap (code q) (drop-word q some p (code q w))
     ∙ code-word q some p (code q w % q ^ p) (mod-lt (code q w) (power-some q some p))
 
--- a word with one more letter at its front, by codes
+-- a word with one more letter in front, by codes
 code_after : (q n : ℕ) (w : List ℕ) → number_from_digits_after q n w ≡ n * q ^ length w + code q w
 code_after q n [] = sym (ap (λ p. n * p + 0) (pow-zero q) ∙ omega arith)
 code_after q n (a ∷ w) =
@@ -47,10 +47,10 @@ module _ (r : Local) (k : ℕ) where
   abbrev nexts : ℕ → ℕ
   nexts c = code r.q (next_letters r k (word r.q (r.n + k - 1) c))
 
-  -- the code of the last j next letters, the front of the word that the others are found in, and the place of the next one
+  -- the code of the last j next letters, the prefix of the word that the others are found in, and the place of the next one
   abbrev pub Tail : ℕ → ℕ → ℕ → ℕ → ℕ → Type 0
-  Tail c j front place next =
-      (front ≡ c / r.q ^ j) × (place ≡ r.q ^ j) × (next < 256 * place) × (next ≡ code r.q (window j (letter c) (k - j)))
+  Tail c j prefix place next =
+      (prefix ≡ c / r.q ^ j) × (place ≡ r.q ^ j) × (next < 256 * place) × (next ≡ code r.q (window j (letter c) (k - j)))
 
 module _ (r : Local) (some : 0 < r.q) (wide : 1 ≤ r.n) (k : ℕ) (long : 1 ≤ k) where
   letter-at : (c j : ℕ) → j < k → letter r k c j ≡ get_or r.answers (c / r.q ^ (k - 1 - j) % r.q ^ r.n) 0
@@ -60,18 +60,18 @@ module _ (r : Local) (some : 0 < r.q) (wide : 1 ≤ r.n) (k : ℕ) (long : 1 ≤
       (part-code r.q some (r.n + k - 1) r.n j c (omega arith) ∙ ap (λ n. c / r.q ^ n % r.q ^ r.n) after)
 
   -- one next letter more
-  pub tail_more : (c j front place next a : ℕ) → 2 ≤ r.q → j < k → a < 256 → a ≡ get_or r.answers (front % r.q ^ r.n) 0 →
-      Tail r k c j front place next → Tail r k c (j + 1) (front / r.q) (place * r.q) (next + a * place)
-  tail_more c j front place next a two h byte is (fronts, places, small, tail) =
+  pub tail_more : (c j prefix place next a : ℕ) → 2 ≤ r.q → j < k → a < 256 → a ≡ get_or r.answers (prefix % r.q ^ r.n) 0 →
+      Tail r k c j prefix place next → Tail r k c (j + 1) (prefix / r.q) (place * r.q) (next + a * place)
+  tail_more c j prefix place next a two h byte is (prefixes, places, small, tail) =
       let more : place * 2 ≤ place * r.q = mul-le-mul_left place two in
       let most : a * place ≤ 255 * place = mul-le-mul_right place (omega arith) in
       let size : length (window j (letter r k c) (k - j)) ≡ j = length-window j (letter r k c) (k - j) in
       let first : suc (k - (j + 1)) ≡ k - j = omega arith in
       let here : a ≡ letter r k c (k - (j + 1)) =
       is
-      ∙ ap (λ t. get_or r.answers (t % r.q ^ r.n) 0) (fronts ∙ ap (λ n. c / r.q ^ n) (omega arith))
+      ∙ ap (λ t. get_or r.answers (t % r.q ^ r.n) 0) (prefixes ∙ ap (λ n. c / r.q ^ n) (omega arith))
       ∙ sym (letter-at c (k - (j + 1)) (omega arith)) in (
-        ap (λ t. t / r.q) fronts ∙ div-div-eq-div-mul c (r.q ^ j) r.q ∙ ap (λ p. c / p) (sym (pow-suc r.q j) ∙ ap (λ n. r.q ^ n) (sym (add-one j))),
+        ap (λ t. t / r.q) prefixes ∙ div-div-eq-div-mul c (r.q ^ j) r.q ∙ ap (λ p. c / p) (sym (pow-suc r.q j) ∙ ap (λ n. r.q ^ n) (sym (add-one j))),
         ap (λ t. t * r.q) places ∙ sym (pow-suc r.q j) ∙ ap (λ n. r.q ^ n) (sym (add-one j)),
         omega arith,
         ap₂ (λ x y. x + y) tail (ap₂ ◌*◌ here (places ∙ ap (λ n. r.q ^ n) (sym size)))
@@ -81,8 +81,8 @@ module _ (r : Local) (some : 0 < r.q) (wide : 1 ≤ r.n) (k : ℕ) (long : 1 ≤
             ∙ ap (λ n. code r.q (window n (letter r k c) (k - (j + 1)))) (sym (add-one j)),
       )
 
-  pub tail_all : (c j front place next : ℕ) → j ≡ k → Tail r k c j front place next → next ≡ nexts r k c
-  tail_all c j front place next all t = t.3 ∙ ap₂ (λ n i. code r.q (window n (letter r k c) i)) all (omega arith)
+  pub tail_all : (c j prefix place next : ℕ) → j ≡ k → Tail r k c j prefix place next → next ≡ nexts r k c
+  tail_all c j prefix place next all t = t.3 ∙ ap₂ (λ n i. code r.q (window n (letter r k c) i)) all (omega arith)
 
   pub tail_none : (c : ℕ) → Tail r k c 0 c 1 0
   tail_none c = (sym (ap (λ p. c / p) (pow-zero r.q) ∙ div-one c), sym (pow-zero r.q), omega arith, refl)
@@ -97,9 +97,9 @@ module _ (r : Local) (some : 0 < r.q) (wide : 1 ≤ r.n) (k : ℕ) (long : 1 ≤
     pub nexts-below : (c : ℕ) → nexts r k c < r.q ^ k
     nexts-below c = code_lt r.q k (table k (letter r k c)) (nexts-word c)
 
-    -- a letter of the word is the letter after it of the front
-    letter-front : (c j : ℕ) → suc j < k → letter r k c j ≡ letter r k (c / r.q) (suc j)
-    letter-front c j h =
+    -- a letter of the word is the letter after it of the prefix
+    letter-prefix : (c j : ℕ) → suc j < k → letter r k c j ≡ letter r k (c / r.q) (suc j)
+    letter-prefix c j h =
         let one : suc (k - 1 - suc j) ≡ k - 1 - j = omega arith in
         letter-at c j (omega arith)
         ∙ ap (λ t. get_or r.answers (t % r.q ^ r.n) 0)
@@ -113,8 +113,8 @@ module _ (r : Local) (some : 0 < r.q) (wide : 1 ≤ r.n) (k : ℕ) (long : 1 ≤
         letter-at c (k - 1) (omega arith)
         ∙ ap (λ t. get_or r.answers (t % r.q ^ r.n) 0) (ap (λ n. c / r.q ^ n) none ∙ ap (λ p. c / p) (pow-zero r.q) ∙ div-one c)
 
-    pub nexts-front : (c : ℕ) → nexts r k (c / r.q) % r.q ^ (k - 1) * r.q + get_or r.answers (c % r.q ^ r.n) 0 ≡ nexts r k c
-    nexts-front c =
+    pub nexts-prefix : (c : ℕ) → nexts r k (c / r.q) % r.q ^ (k - 1) * r.q + get_or r.answers (c % r.q ^ r.n) 0 ≡ nexts r k c
+    nexts-prefix c =
         let p = k - 1 in
         let size : suc p ≡ k = omega arith in
         let size_plus : p + 1 ≡ k = omega arith in
@@ -122,7 +122,7 @@ module _ (r : Local) (some : 0 < r.q) (wide : 1 ≤ r.n) (k : ℕ) (long : 1 ≤
         window_same p (letter r k c) (letter r k (c / r.q)) 0 1 (λ t h.
         let here : 0 + t ≡ t = omega arith in
         let there : suc t ≡ 1 + t = omega arith in
-        ap (letter r k c) here ∙ letter-front c t (omega arith) ∙ ap (letter r k (c / r.q)) there) in
+        ap (letter r k c) here ∙ letter-prefix c t (omega arith) ∙ ap (letter r k (c / r.q)) there) in
         let fewer : code r.q (table p (letter r k c)) ≡ nexts r k (c / r.q) % r.q ^ p =
         ap (code r.q) tail
         ∙ code-drop r.q some p (table (suc p) (letter r k (c / r.q))) (subst (λ n. Word r.q n (table n (letter r k (c / r.q)))) (sym size) (nexts-word (c / r.q)))
@@ -192,9 +192,9 @@ module _ (s : RuleSizes) (r : Local) (lawful : Lawful r) (same : sized_rule s r 
       let q = s.words.q in
       let some : 0 < q = omega (arith, s.words.sizes.0) in
       let more : head * 2 ≤ head * q = mul-le-mul_left head s.words.sizes.0 in
-      let front : get_or strip head 0 ≡ next_word s r ((head * q + last) / q) =
+      let prefix_is : get_or strip head 0 ≡ next_word s r ((head * q + last) / q) =
       known head (omega (arith, more)) ∙ ap (next_word s r) (sym (digits_div head below)) in
       ap₂ (λ x y. x * q + y)
-      (ap₂ (λ x y. x % y) front s.counts.1)
+      (ap₂ (λ x y. x % y) prefix_is s.counts.1)
       (is ∙ ap (λ t. get_or r.answers t 0) (sym (window_more s head last below)))
-      ∙ nexts-front (sized_rule s r) some (omega (arith, s.reach)) s.k s.some sized_lawful.letters (head * q + last)
+      ∙ nexts-prefix (sized_rule s r) some (omega (arith, s.reach)) s.k s.some sized_lawful.letters (head * q + last)

@@ -74,17 +74,17 @@ sum-reads f F t (suc n) each =
     record { means = more.means; small = omega (arith, more.small, suc-mul n t) }
 
 -- the crossings of a label that a label of small whole numbers means
-module _ (d : List ℕ → ℤ) (D : List ℕ → Below (2 ^ 64)) (t z r : ℕ) (label : (w : List ℕ) → Reads (d w) (D w) t) where
-  pub crossing-reads : (v : List ℕ) → Reads (crossing integers d z r v) (crossing voice_group D z r v) (r * t)
+module _ (d : List ℕ → ℤ) (D : List ℕ → Below (2 ^ 64)) (t z m : ℕ) (label : (w : List ℕ) → Reads (d w) (D w) t) where
+  pub crossing-reads : (v : List ℕ) → Reads (crossing integers d z m v) (crossing voice_group D z m v) ((m - 1) * t)
   crossing-reads v =
-      let at : ℕ → List ℕ = λ j. repeated z (r - j) ++ take (suc j) v in
-      neg-reads (sum-reads (λ j. d (at j)) (λ j. D (at j)) t r (λ j. label (at j)))
+      let at : ℕ → List ℕ = λ j. repeated z (m - 1 - j) ++ take (suc j) v in
+      neg-reads (sum-reads (λ j. d (at j)) (λ j. D (at j)) t (m - 1) (λ j. label (at j)))
 
   -- what crosses at a word's first letters less what crosses at its last
   pub crossed-reads : (w : List ℕ) →
-      Reads (minus integers (crossing integers d z r (take r w)) (crossing integers d z r (drop 1 w)))
-      (minus voice_group (crossing voice_group D z r (take r w)) (crossing voice_group D z r (drop 1 w))) (r * t + r * t)
-  crossed-reads w = minus-reads (crossing-reads (take r w)) (crossing-reads (drop 1 w))
+      Reads (minus integers (crossing integers d z m (take (m - 1) w)) (crossing integers d z m (drop 1 w)))
+      (minus voice_group (crossing voice_group D z m (take (m - 1) w)) (crossing voice_group D z m (drop 1 w))) ((m - 1) * t + (m - 1) * t)
+  crossed-reads w = minus-reads (crossing-reads (take (m - 1) w)) (crossing-reads (drop 1 w))
 
 -- a list's charges read as whole numbers, where they are small
 pub whole-reads : (d : Weights (Below (2 ^ 64))) (t : ℕ) (w : List ℕ) → nat_abs (signed (weight voice_group d w)) ≤ t →

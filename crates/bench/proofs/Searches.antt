@@ -3,6 +3,7 @@ use Rattle.std.proofs.Common.{◌≡◌, ℕ, ◌+◌, ◌-◌, ◌^◌, ◌≤�
 use Rattle.fault.specs.Answers.{and_then, at_front, strip_after}
 use Rattle.fault.specs.declared.Stop.TheVariants.{ShortStrip}
 use Rattle.fault.specs.Limits.{most_words}
+use Rattle.fault.specs.declared.Fault.{Fault}
 use Rattle.fault.specs.Refusals.{Refusal, refused_at}
 use Rattle.std.proofs.lemmas.Bool.Decides.{nat_tests}
 use Rattle.charge.specs.Groups.{Kind}
@@ -11,33 +12,31 @@ use Rattle.automaton.specs.Making.{ring_checked, passes}
 use Rattle.automaton.specs.Meanings.{Local, Weights, Lawful, Weighed, next, total}
 use Rattle.automaton.proofs.Passes.{ring_ready}
 use Rattle.automaton.proofs.Steps.{length-next, next_word}
-use Rattle.criterion.specs.Answers.{with_length, examined, crossings_written, ring_written}
-use Rattle.criterion.specs.Search.{padding, crossings}
+use Rattle.criterion.specs.declared.search.Failure.{Failure}
+use Rattle.criterion.specs.Answers.{failure_seen, with_length, examined, crossings_written, ring_written}
+use Rattle.criterion.specs.Labelled.{LabelList}
+use Rattle.criterion.specs.Search.{padding}
 use Rattle.criterion.specs.ChargeStrips.{FrontMeans}
 use Rattle.bench.specs.Labels.{rule_label_list, two_label, two_label_list, listed}
-use Rattle.bench.specs.Benches.{Bench}
+use Rattle.bench.specs.Benches.{Bench, label_of}
 use Rattle.bench.specs.Laws.{VerdictRight, ComparisonRight}
-use Rattle.bench.specs.Sized.{SizesOf, sized_rule, sized_density, first_sized, second_sized}
-use Rattle.bench.specs.Verdicts.{ShownRing, bench_checked, fitting, Found, Lent, Leaves, judge_found, judge_break, compare_found}
+use Rattle.bench.specs.KeptSizes.{SizesOf, sized_rule, sized_density, first_sized, second_sized}
+use Rattle.bench.specs.Promises.{SearchesWords}
+use Rattle.bench.specs.Verdicts.{ShownRing, bench_checked, fitting, Found, Lent, judge_found, judge_break, compare_found}
 use Rattle.bench.specs.declared.sizes.RuleSizes.{RuleSizes}
 use Rattle.bench.specs.declared.sizes.TwoSizes.{TwoSizes}
 use Rattle.bench.proofs.Rights.{fits, label-sizes, verdict_right, comparison_right}
 
--- what a call on lent strips answers and leaves, by what is found and by the crossings
-pub record Left {C : Type 0} (K : Kind C) (found : Found) (all : List K.group.Carrier) (said : Result (Option (ℕ × ℕ)) Refusal) (old new : Lent C) : Type 0 where
-  pub answer : said ≡ with_length found
-  pub left : Leaves K found all old new
-
-module _ {C : Type 0} (K : Kind C) (L M : Weights K.group.Carrier) (t : Result (Unit {0}) Refusal) (said : Result (Option (ℕ × ℕ)) Refusal) (old new : Lent C) where
-  abbrev look : Weights K.group.Carrier → Found
+module _ {C : Type 0} (K : Kind C) (L M : LabelList K.group.Carrier) (t : Result (Unit {0}) Refusal) (result : Result (Option Failure) Fault) (old new : Lent C) where
+  abbrev look : LabelList K.group.Carrier → Found
   look N = examined K padding N (length old.crossings) (length old.ring)
 
   -- the same label under another name, once the sizes have passed
-  pub left_passed : t ≡ Ok tt → L ≡ M → said ≡ with_length (look L) → FrontMeans K (crossings_written K padding L (length old.crossings) (length old.ring)) old.crossings new.crossings →
-      new.ring ≡ at_front (ring_written (look L)) old.ring → Left K (and_then t (λ _. look M)) (crossings K padding M) said old new
+  pub left_passed : t ≡ Ok tt → L ≡ M → failure_seen result ≡ with_length (look L) → FrontMeans K (crossings_written K padding L (length old.crossings) (length old.ring)) old.crossings new.crossings →
+      new.ring ≡ at_front (ring_written (look L)) old.ring → SearchesWords K (and_then t (λ _. look M)) M old result new
   left_passed passed same x y z =
-      subst (λ (u : Result (Unit {0}) Refusal). Left K (and_then u (λ _. look M)) (crossings K padding M) said old new) (sym passed)
-      (subst (λ (N : Weights K.group.Carrier). Left K (look N) (crossings K padding N) said old new) same (record { answer = x; left = record { crossings = y; ring = z } }))
+      subst (λ (u : Result (Unit {0}) Refusal). SearchesWords K (and_then u (λ _. look M)) M old result new) (sym passed)
+      (subst (λ (N : LabelList K.group.Carrier). SearchesWords K (look N) N old result new) same (record { answer = x; left = record { crossings = y; ring = z } }))
 
 -- sizes that a rule and a density have are those of a bench
 pub sizes-pass : {C : Type 0} {K : Kind C} (s : RuleSizes) (b : Bench K) → SizesOf s b.rule b.density → bench_checked b ≡ Ok tt
@@ -74,7 +73,7 @@ two_list-same {C} K s d e eq e1 e2 eq' em =
     second : second_sized s e ≡ e
     second i = record { q = eq' i; k = e2 i; charges = e.charges }
 
--- The ring that a call has shown, where it answers a failing word and a length: what the strip holds in its at_front.
+-- The ring that a call has shown, where it answers a failing word and a length: what the strip holds at its front.
 pub record Shown (q : ℕ) (found : Result (Option (ℕ × List ℕ)) Refusal) (word len : ℕ) (strip : List ℕ) : Type 0 where
   pub ring : List ℕ
   pub is : found ≡ Ok (Some (word, ring))
@@ -117,28 +116,33 @@ passed q other m x y e = through (fitting q other m) e
     through (Ok u) e = refl
     through (Err f) e = absurd (grind (arith, e))
 
-module _ {C : Type 0} (K : Kind C) (w n : ℕ) (s : Lent C) (strip : List ℕ) where
-  pub judge-shown : (b : Bench K) → Lawful b.rule → Weighed b.density → Ok (Some (w, n)) ≡ with_length (judge_found b (length s.crossings) (length s.ring)) →
-      strip ≡ at_front (ring_written (judge_found b (length s.crossings) (length s.ring))) s.ring → Shown b.rule.q (judge_found b (length s.crossings) (length s.ring)) w n strip × (b.rule.q ≡ b.density.q)
-  judge-shown b lawful weighed e is =
-      let c = counted-some (judge_found b (length s.crossings) (length s.ring)) w n e in
-      let fit = fits b.rule.q b.density.q (b.rule.n + b.density.k - 1) (passed b.rule.q b.density.q (b.rule.n + b.density.k - 1) _ _ c.1) in
-      let sizes = label-sizes b.rule.q (b.rule.n + b.density.k - 1) lawful.sizes.0 lawful.sizes.1 (omega (arith, lawful.sizes.2, weighed.sizes.2)) fit.1 in (
-        shown_in b.rule.q w n (judge_found b (length s.crossings) (length s.ring)) s.ring strip e is
+-- the ring that a search has shown
+module _ {C : Type 0} (K : Kind C) (f : Failure) (old new : Lent C) where
+  pub judge-shown : (b : Bench K) → Lawful b.rule → Weighed b.density → (let found = judge_found b (length old.crossings) (length old.ring) in
+      SearchesWords K found (label_of b) old (Ok (Some f)) new → Shown b.rule.q found f.word f.len new.ring × (b.rule.q ≡ b.density.q))
+  judge-shown b lawful weighed searched =
+      let found = judge_found b (length old.crossings) (length old.ring) in
+      let c = counted-some found f.word f.len searched.answer in
+      let m : ℕ = b.rule.n + b.density.k - 1 in
+      let fit = fits b.rule.q b.density.q m (passed b.rule.q b.density.q m _ _ c.1) in
+      let sizes = label-sizes b.rule.q m lawful.sizes.0 lawful.sizes.1 (omega (arith, lawful.sizes.2, weighed.sizes.2)) fit.1 in (
+        shown_in b.rule.q f.word f.len found old.ring new.ring searched.answer searched.left.ring
             (λ ring is.
-            let apart = subst (VerdictRight b) is (verdict_right K (length s.crossings) (length s.ring) b lawful weighed) in
+            let apart = subst (VerdictRight b) is (verdict_right K (length old.crossings) (length old.ring) b lawful weighed) in
             (apart.0, omega (arith, apart.1, sizes.3), apart.2)),
         fit.0,
       )
 
-  pub compare-shown : (d e : Weights K.group.Carrier) → Weighed d → Weighed e → Ok (Some (w, n)) ≡ with_length (compare_found K d e (length s.crossings) (length s.ring)) →
-      strip ≡ at_front (ring_written (compare_found K d e (length s.crossings) (length s.ring))) s.ring → Shown d.q (compare_found K d e (length s.crossings) (length s.ring)) w n strip × (d.q ≡ e.q)
-  compare-shown d e weighed weighed' h is =
-      let c = counted-some (compare_found K d e (length s.crossings) (length s.ring)) w n h in
-      let fit = fits d.q e.q (max d.k e.k) (passed d.q e.q (max d.k e.k) _ _ c.1) in (
-        shown_in d.q w n (compare_found K d e (length s.crossings) (length s.ring)) s.ring strip h is
+  pub compare-shown : (d e : Weights K.group.Carrier) → Weighed d → Weighed e → (let found = compare_found K d e (length old.crossings) (length old.ring) in
+      SearchesWords K found (two_label_list K.group d e) old (Ok (Some f)) new → Shown d.q found f.word f.len new.ring × (d.q ≡ e.q))
+  compare-shown d e weighed weighed' searched =
+      let found = compare_found K d e (length old.crossings) (length old.ring) in
+      let c = counted-some found f.word f.len searched.answer in
+      let m : ℕ = max d.k e.k in
+      let fit = fits d.q e.q m (passed d.q e.q m _ _ c.1) in (
+        shown_in d.q f.word f.len found old.ring new.ring searched.answer searched.left.ring
             (λ ring is.
-            let apart = subst (ComparisonRight K d e) is (comparison_right K (length s.crossings) (length s.ring) d e weighed weighed') in
+            let apart = subst (ComparisonRight K d e) is (comparison_right K (length old.crossings) (length old.ring) d e weighed weighed') in
             (apart.0, omega (arith, apart.1, weighed.sizes.3, weighed'.sizes.3), apart.2)),
         fit.0,
       )

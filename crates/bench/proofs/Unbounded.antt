@@ -8,12 +8,13 @@ use Rattle.fault.specs.Limits.{most_cells}
 use Rattle.charge.specs.Kinds.{voice_group, voices, signed}
 use Rattle.charge.specs.Residues.{Below}
 use Rattle.automaton.specs.Words.{code, word, window, table, cell}
-use Rattle.automaton.specs.Meanings.{Local, Weights, Weighed, weight, next, total}
+use Rattle.automaton.specs.Meanings.{Local, Weights, Weighed, next, total}
 use Rattle.automaton.specs.Ranges.{InRange}
 use Rattle.automaton.proofs.Codes.{length-word}
 use Rattle.automaton.proofs.Steps.{length-next}
 use Rattle.criterion.specs.Answers.{examined}
 use Rattle.criterion.specs.Balance.{ring_a, ring_b}
+use Rattle.criterion.specs.Labelled.{LabelList, label_at, label_weights}
 use Rattle.criterion.specs.Search.{padding, first_of, sums_to_zero, J, crossings, with_room, fails, shown, failure}
 use Rattle.criterion.proofs.Pads.{length_pad}
 use Rattle.bench.specs.Labels.{listed, rule_label, two_label}
@@ -33,59 +34,63 @@ window_small t zero s i j each = omega arith
 window_small t (suc m) s i zero each = each i
 window_small t (suc m) s i (suc j) each = window_small t m s (suc i) j each
 
+-- a label in voices, its charges read as whole numbers
+abbrev whole_label : LabelList (Below (2 ^ 64)) → LabelList ℤ
+whole_label L = record { q = L.q; m = L.m; charges = map signed L.charges }
+
 -- A label in voices, whose charges are small as whole numbers: so are the sums over its words and over the rings shown.
-module _ (L : Weights (Below (2 ^ 64))) (t z : ℕ) (label : (w : List ℕ) → Reads (weight integers (whole L) w) (weight voice_group L w) t) (room : (2 * L.k + 1) * t < 2 ^ 63) where
-  fits : (n : ℕ) → n ≤ 2 * L.k + 1 → n * t < 2 ^ 63
+module _ (L : LabelList (Below (2 ^ 64))) (t z : ℕ) (label : (w : List ℕ) → Reads (label_at integers (whole_label L) w) (label_at voice_group L w) t) (room : (2 * L.m + 1) * t < 2 ^ 63) where
+  fits : (n : ℕ) → n ≤ 2 * L.m + 1 → n * t < 2 ^ 63
   fits n h = omega (arith, mul-le-mul_right t h, room)
 
-  fails-whole : (w : List ℕ) → fails voices z L w ≡ fails unbounded z (whole L) w
+  fails-whole : (w : List ℕ) → fails voices z L w ≡ fails unbounded z (whole_label L) w
   fails-whole w =
       ap not
-      (tested-reads (label w) (crossed-reads (weight integers (whole L)) (weight voice_group L) t z (L.k - 1) label w)
+      (tested-reads (label w) (crossed-reads (label_at integers (whole_label L)) (label_at voice_group L) t z L.m label w)
       (omega (arith, fits 1 (omega arith)))
-      (omega (arith, fits (L.k - 1 + (L.k - 1)) (omega arith), add-mul (L.k - 1) (L.k - 1) t)))
+      (omega (arith, fits (L.m - 1 + (L.m - 1)) (omega arith), add-mul (L.m - 1) (L.m - 1) t)))
 
-  sums-whole : (c : List ℕ) → length c ≤ 2 * L.k → sums_to_zero voices L c ≡ sums_to_zero unbounded (whole L) c
+  sums-whole : (c : List ℕ) → length c ≤ 2 * L.m → sums_to_zero voices L c ≡ sums_to_zero unbounded (whole_label L) c
   sums-whole c short =
-      let at : ℕ → List ℕ = window L.k (cell c) in
-      tested-reads (sum-reads (λ i. weight integers (whole L) (at i)) (λ i. weight voice_group L (at i)) t (length c) (λ i. label (at i))) zero-reads
+      let at : ℕ → List ℕ = window L.m (cell c) in
+      tested-reads (sum-reads (λ i. label_at integers (whole_label L) (at i)) (λ i. label_at voice_group L (at i)) t (length c) (λ i. label (at i))) zero-reads
       (fits (length c) (omega arith)) (omega arith)
 
-  shown-whole : (c : ℕ) → shown voices z L (word L.q L.k c) ≡ shown unbounded z (whole L) (word L.q L.k c)
+  shown-whole : (c : ℕ) → shown voices z L (word L.q L.m c) ≡ shown unbounded z (whole_label L) (word L.q L.m c)
   shown-whole c =
-      let w : List ℕ = word L.q L.k c in
-      ap (λ b. cond b (ring_b z (L.k - 1) w) (ring_a z (L.k - 1) w))
-      (sums-whole (ring_a z (L.k - 1) w) (omega (arith, length_pad z w (L.k - 1), length-word L.q L.k c)))
+      let w : List ℕ = word L.q L.m c in
+      ap (λ b. cond b (ring_b z L.m w) (ring_a z L.m w))
+      (sums-whole (ring_a z L.m w) (omega (arith, length_pad z w (L.m - 1), length-word L.q L.m c)))
 
-  failure-whole : failure voices z L ≡ failure unbounded z (whole L)
+  failure-whole : failure voices z L ≡ failure unbounded z (whole_label L)
   failure-whole =
-      ap₂ (λ ring test. option_map (λ c. (c, ring c)) (first_of test 0 (L.q ^ L.k)))
-      (fun_ext shown-whole) (fun_ext (λ c. fails-whole (word L.q L.k c)))
+      ap₂ (λ ring test. option_map (λ c. (c, ring c)) (first_of test 0 (L.q ^ L.m)))
+      (fun_ext shown-whole) (fun_ext (λ c. fails-whole (word L.q L.m c)))
 
-  examined-whole : (crossing_room ring_room : ℕ) → examined voices z L crossing_room ring_room ≡ examined unbounded z (whole L) crossing_room ring_room
+  examined-whole : (crossing_room ring_room : ℕ) → examined voices z L crossing_room ring_room ≡ examined unbounded z (whole_label L) crossing_room ring_room
   examined-whole crossing_room ring_room = ap (with_room voices z L crossing_room ring_room) failure-whole
 
-  crossings-whole : map signed (crossings voices z L) ≡ crossings unbounded z (whole L)
+  crossings-whole : map signed (crossings voices z L) ≡ crossings unbounded z (whole_label L)
   crossings-whole =
-      let at : ℕ → List ℕ = word L.q (L.k - 1) in
-      map-window signed (L.q ^ (L.k - 1)) (λ v. J voices z L (at v)) 0
-      ∙ ap (table (L.q ^ (L.k - 1)))
+      let at : ℕ → List ℕ = word L.q (L.m - 1) in
+      map-window signed (L.q ^ (L.m - 1)) (λ v. J voices z L (at v)) 0
+      ∙ ap (table (L.q ^ (L.m - 1)))
       (fun_ext
-      (λ v. signed-reads (crossing-reads (weight integers (whole L)) (weight voice_group L) t z (L.k - 1) label (at v)) (fits (L.k - 1) (omega arith))))
+      (λ v. signed-reads (crossing-reads (label_at integers (whole_label L)) (label_at voice_group L) t z L.m label (at v)) (fits (L.m - 1) (omega arith))))
 
 -- the label on words of m letters that small whole numbers d mean in voices
 module _ (q m : ℕ) (d : List ℕ → ℤ) (D : List ℕ → Below (2 ^ 64)) (label : (w : List ℕ) → Reads (d w) (D w) label_end) (narrow : m ≤ 23) where
   same-label : (c : ℕ) → signed (D (word q m c)) ≡ d (word q m c)
   same-label c = signed-reads (label (word q m c)) (omega arith)
 
-  listed-whole : whole (listed q m D) ≡ listed q m d
+  listed-whole : whole_label (listed q m D) ≡ listed q m d
   listed-whole =
-      ap (λ charges. record { q = q; k = m; charges = charges })
+      ap (λ charges. record { q = q; m = m; charges = charges })
       (map-window signed (q ^ m) (λ c. D (word q m c)) 0 ∙ ap (table (q ^ m)) (fun_ext same-label))
 
-  listed-reads : (w : List ℕ) → Reads (weight integers (whole (listed q m D)) w) (weight voice_group (listed q m D) w) label_end
+  listed-reads : (w : List ℕ) → Reads (label_at integers (whole_label (listed q m D)) w) (label_at voice_group (listed q m D) w) label_end
   listed-reads w =
-      whole-reads (listed q m D) label_end w
+      whole-reads (label_weights (listed q m D)) label_end w
       (window_small label_end (q ^ m) (λ c. D (word q m c)) 0 (code q w)
       (λ c. subst (λ x. nat_abs x ≤ label_end) (sym (same-label c)) (label (word q m c)).small))
 

@@ -49,7 +49,7 @@ module _ {C : Type 0} {K : Kind C} (b : Bench K) where
   abbrev pub VerdictRight : Result (Option (ℕ × List ℕ)) Refusal → Type 0
   VerdictRight (Ok None) =
       KeepsTotal K.group b.rule b.density
-      × OnlyTable K.group (rule_label K.group b.rule b.density) padding b.rule.q (b.rule.n + b.density.k - 2) (J K padding (label_of b))
+      × OnlyTable K.group (rule_label K.group b.rule b.density) padding b.rule.q (b.rule.n + b.density.k - 1) (J K padding (label_of b))
   VerdictRight (Ok (Some f)) = Apart b.rule.q (2 * (b.rule.n + b.density.k) - 3) (total_after b) (total_before b) f.1
   VerdictRight (Err f) = Unit {0}
 
@@ -58,7 +58,7 @@ module _ {C : Type 0} (K : Kind C) (d e : Weights K.group.Carrier) where
   abbrev pub ComparisonRight : Result (Option (ℕ × List ℕ)) Refusal → Type 0
   ComparisonRight (Ok None) =
       SameTotals K.group d e
-      × OnlyTable K.group (two_label K.group d e) padding d.q (max d.k e.k - 1) (J K padding (two_label_list K.group d e))
+      × OnlyTable K.group (two_label K.group d e) padding d.q (max d.k e.k) (J K padding (two_label_list K.group d e))
   ComparisonRight (Ok (Some f)) = Apart d.q (2 * max d.k e.k - 1) (total K.group d) (total K.group e) f.1
   ComparisonRight (Err f) = Unit {0}
 

@@ -3,7 +3,7 @@ pub mod Benches
 pub mod Laws
 pub mod Verdicts
 pub mod Unbounded
-pub mod Sized
+pub mod KeptSizes
 pub mod Answers
 pub mod Promises
 pub mod Labelling

@@ -42,9 +42,9 @@ abbrev pub whole_comparison : Agreement (Below (2 ^ 64)) → Agreement ℤ
 whole_comparison agree = agree
 whole_comparison (differ b) = differ (whole_break b)
 
--- Judging in voices is judging in whole numbers without bounds: the same word is found to fail and the same ring to show
--- it. What is found is right of unbounded totals: under "holds" no ring changes its own, otherwise the ring shown does.
--- The totals that are answered are the unbounded totals, and so are the crossings.
+-- Judging in voices is judging in whole numbers without bounds: the same word is found to fail and the same ring to
+-- show it. What is found is right of unbounded totals: under "holds" no ring changes its own, otherwise the ring shown
+-- does. The totals that are answered are the unbounded totals, and so are the crossings.
 pub record JudgedWhole (b : Bench voices) (crossing_room ring_room : ℕ) : Type 0 where
   pub found : judge_found b crossing_room ring_room ≡ judge_found (whole_bench b) crossing_room ring_room
   pub right : VerdictRight (whole_bench b) (judge_found b crossing_room ring_room)

@@ -100,8 +100,8 @@ pub record Lent (C : Type 0) : Type 0 where
 abbrev pub lent : {C : Type 0} → List C → List ℕ → Lent C
 lent charges cells = record { crossings = charges; ring = cells }
 
--- what is left on the strips: the crossings and the ring that are written, each at the at_front of its strip, and none where
--- the call is refused
+-- what is left on the strips: the crossings and the ring that are written, each at the front of its strip, and none
+-- where the call is refused
 pub record Leaves {C : Type 0} (K : Kind C) (found : Found) (all : List K.group.Carrier) (old new : Lent C) : Type 0 where
   pub crossings : FrontMeans K (unless_refused found all) old.crossings new.crossings
   pub ring : new.ring ≡ at_front (ring_written found) old.ring

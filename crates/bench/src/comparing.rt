@@ -1,9 +1,10 @@
 // Two densities, compared by their totals.
-ghost use Rattle.std.specs.Prelude.{◌≡◌, length};
-ghost use Rattle.criterion.specs.Answers.{failure_seen, with_length};
+ghost use Rattle.std.specs.Prelude.{◌≡◌, length, Ok};
+ghost use Rattle.automaton.specs.Meanings.{total};
 ghost use Rattle.bench.specs.Answers.{compare_said};
-ghost use Rattle.bench.specs.Promises.{Compares};
-ghost use Rattle.bench.specs.Verdicts.{lent, compare_found, comparing, CompareLeaves};
+ghost use Rattle.bench.specs.Labels.{two_label_list};
+ghost use Rattle.bench.specs.Promises.{SearchesWords, Compares};
+ghost use Rattle.bench.specs.Verdicts.{ShownRing, broken, differ, lent, compare_found};
 
 use crate::sizes::TwoSizes;
 use crate::state::{Break, Comparison};
@@ -20,12 +21,11 @@ fn compare_words<C: Charge, D: Density<C>, E: Density<C>>(
     crossings: &mut [C],
     ring: &mut [u8],
 ) -> Result<Option<Failure>, Fault>
-    ensures answer { let d = D.weights C.kind first.now in
+    ensures { let d = D.weights C.kind first.now in
         let e = E.weights C.kind second.now in
         let found = compare_found C.kind d e (length crossings.old) (length ring.old) in
-        failure_seen result ≡ with_length found }
-    ensures left { CompareLeaves C.kind (D.weights C.kind first.now) (E.weights C.kind second.now)
-        (lent crossings.old ring.old) (lent crossings.new ring.new) }
+        SearchesWords C.kind found (two_label_list C.kind.group d e)
+        (lent crossings.old ring.old) result (lent crossings.new ring.new) }
 {
     let sizes = TwoSizes::of(first, second)?;
     let label = TwoLabel {
@@ -36,35 +36,42 @@ fn compare_words<C: Charge, D: Density<C>, E: Density<C>>(
     examine(&label, crossings, ring)
 }
 
-// Compares two densities on lent strips. Apart from `compare`, whose theorems need answers of their own.
-fn compare_on<C: Charge, D: Density<C>, E: Density<C>>(
+// The difference by a failing word and the ring that shows it, with its totals under the two densities.
+fn differ_on<C: Charge, D: Density<C>, E: Density<C>>(
     first: &D,
     second: &E,
-    crossings: &mut [C],
-    ring: &mut [u8],
+    word: usize,
+    ring: &[u8],
 ) -> Result<Comparison<C>, Fault>
-    ensures answer { let d = D.weights C.kind first.now in
+    requires shown { ShownRing (D.weights C.kind first.now).q ring.now }
+    requires alike { (D.weights C.kind first.now).q ≡ (E.weights C.kind second.now).q }
+    ensures { let d = D.weights C.kind first.now in
         let e = E.weights C.kind second.now in
         compare_said C.kind result
-        ≡ comparing C.kind d e (length crossings.old) (length ring.old) }
-    ensures left { CompareLeaves C.kind (D.weights C.kind first.now) (E.weights C.kind second.now)
-        (lent crossings.old ring.old) (lent crossings.new ring.new) }
+        ≡ Ok (differ (broken (total C.kind.group d) (total C.kind.group e) (word, ring.now))) }
 {
-    let Some(Failure { word, len }) = compare_words(first, second, crossings, ring)? else {
-        return Ok(Comparison::Agree);
-    };
-    let shown = &ring[..len];
     Ok(Comparison::Differ(Break {
         word,
-        len,
-        first: total(first, shown)?,
-        second: total(second, shown)?,
+        len: ring.len(),
+        first: total(first, ring)?,
+        second: total(second, ring)?,
     }))
 }
 
-// Whether the two densities agree on the total of every ring of any length, or else the word that fails and a ring with
-// two totals. Fills the front of one strip with the crossings, and where the densities differ writes that ring to the
-// front of the other. The strips make no struct, as for the judge.
+/// Whether two densities agree on the total of every ring of any length.
+///
+/// With m as the larger of the two widths, the crossings of the words of m - 1 letters go to the front of `crossings`,
+/// in the order of the codes. Where the densities differ, a ring that has two totals is written to the front of `ring`.
+///
+/// Refused, with nothing written and always at place 0: by `Stop::AlphabetsDiffer`; by `Stop::TooManyWords`, where q^m
+/// is above 4,096; by `Stop::ShortStrip`, where `crossings` has fewer than q^(m - 1) charges or `ring` has fewer than
+/// 2 m - 1 cells.
+///
+/// ```rust
+/// if let Comparison::Differ(found) = compare(&first, &second, &mut crossings, &mut ring)? {
+///     // the total of `ring[..found.len]` is `found.first` under one density and `found.second` under the other
+/// }
+/// ```
 pub fn compare<C: Charge, D: Density<C>, E: Density<C>>(
     first: &D,
     second: &E,
@@ -74,5 +81,8 @@ pub fn compare<C: Charge, D: Density<C>, E: Density<C>>(
     ensures { Compares C.kind (D.weights C.kind first.now) (E.weights C.kind second.now)
         (lent crossings.old ring.old) result (lent crossings.new ring.new) }
 {
-    compare_on(first, second, crossings, ring)
+    let Some(Failure { word, len }) = compare_words(first, second, crossings, ring)? else {
+        return Ok(Comparison::Agree);
+    };
+    differ_on(first, second, word, &ring[..len])
 }

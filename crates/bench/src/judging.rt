@@ -1,25 +1,24 @@
 // The bench, and its one verdict.
 ghost use Rattle.std.specs.Prelude.{◌≡◌, length, Ok};
 ghost use Rattle.automaton.specs.Making.{charged};
-ghost use Rattle.criterion.specs.Answers.{failure_seen, with_length};
 ghost use Rattle.bench.specs.Answers.{breaks_mean, verdict_means, draft_said, found_said, broken_said};
-ghost use Rattle.bench.specs.Benches.{bench_of, total_before, total_after};
+ghost use Rattle.bench.specs.Benches.{bench_of, label_of, total_before, total_after};
 ghost use Rattle.bench.specs.Laws.{KnownBy};
-ghost use Rattle.bench.specs.Promises.{Judges};
+ghost use Rattle.bench.specs.Promises.{SearchesWords, Judges};
 ghost use Rattle.bench.specs.States.{draft_bench, draft_parts, judged_parts, HandsIn, HandsOn};
 ghost use Rattle.bench.specs.Verdicts.{ShownRing, bench_checked, broken, lent, judge_found, judge_break, JudgeLeaves, verdict_of};
 
 use crate::next_words::NextWords;
 use crate::rule_label::RuleLabel;
 use crate::sizes::RuleSizes;
-use crate::state::{Break, Breaking, Draft, Holding, BenchParts, Refused, Verdict};
+use crate::state::{BenchParts, Break, Breaking, Draft, Holding, Refused, Verdict};
 use automaton::{Density, Rule, next_ring, total};
 use charge::Charge;
 use criterion::{Failure, MOST_SHOWN, examine};
 use fault::Fault;
 use std::marker::PhantomData;
 
-// What a draft is once it is judged.
+/// What a draft is once it is judged: a bench that holds, or one that breaks, with the break.
 pub type Judged<C, R, D> = Verdict<C, Holding<C, R, D>, Breaking<C, R, D>>;
 
 // The bench in the state that a break, or none, puts it into.
@@ -39,7 +38,10 @@ fn verdict_of<C: Charge, R: Rule, D: Density<C>>(
 }
 
 impl<C: Charge, R: Rule, D: Density<C>> Draft<C, R, D> {
-    // A bench of a rule and a density over one alphabet, whose words are few.
+    /// A bench of a rule and a density.
+    ///
+    /// Refused, with both handed back: by `Stop::AlphabetsDiffer` at place 0, then by `Stop::TooManyWords` at place 0,
+    /// where there are more than 4,096 words of n + k - 1 letters.
     pub fn new(rule: R, density: D) -> Result<Draft<C, R, D>, Refused<BenchParts<R, D>>>
         ensures answer { draft_said result
             ≡ bench_checked (bench_of C.kind (R.meaning rule) (D.weights C.kind density)) }
@@ -84,14 +86,13 @@ impl<C: Charge, R: Rule, D: Density<C>> Draft<C, R, D> {
         })
     }
 
-    // The first word that fails under the label, on lent strips. The next letters of all words are found first, since each
-    // word's label is asked for more than once. The two strips make no struct: clauses would reach each of them through two
-    // references.
+    // The first word that fails under the label, on lent strips. The next letters of all words are found first, since
+    // each word's label is asked for more than once.
     fn judge_words(&self, crossings: &mut [C], ring: &mut [u8]) -> Result<Option<Failure>, Fault>
-        ensures answer { let b = draft_bench self.now in
-            failure_seen result ≡ with_length (judge_found b (length crossings.old) (length ring.old)) }
-        ensures left { JudgeLeaves (draft_bench self.now)
-            (lent crossings.old ring.old) (lent crossings.new ring.new) }
+        ensures { let b = draft_bench self.now in
+            let found = judge_found b (length crossings.old) (length ring.old) in
+            SearchesWords C.kind found (label_of b)
+            (lent crossings.old ring.old) result (lent crossings.new ring.new) }
     {
         let mut room = NextWords::new();
         let label = RuleLabel {
@@ -115,8 +116,20 @@ impl<C: Charge, R: Rule, D: Density<C>> Draft<C, R, D> {
         Ok(Some(self.break_on(word, &ring[..len])?))
     }
 
-    // Whether some ring of any length changes its total in a step. Fills the front of one strip with the crossings,
-    // and on a break writes the ring that shows it to the front of the other. Only a strip too short is refused.
+    /// Whether some ring of any length changes its total in a step.
+    ///
+    /// With m = n + k - 1, the crossings of the words of m - 1 letters go to the front of `crossings`, in the order of
+    /// the codes. On a break a ring that changes its total is written to the front of `ring`.
+    ///
+    /// Refused, with nothing written and the draft handed back, by `Stop::ShortStrip` at place 0 alone: where
+    /// `crossings` has fewer than q^(m - 1) charges or `ring` fewer than 2 m - 1 cells, whatever the verdict is.
+    ///
+    /// ```rust
+    /// match Draft::new(rule, density)?.judge(&mut crossings, &mut ring)? {
+    ///     Verdict::Holds(bench) => {} // no ring changes its total: `bench` may be played
+    ///     Verdict::Breaks(_, found) => {} // `ring[..found.len]` goes from `found.first` to `found.second`
+    /// }
+    /// ```
     pub fn judge(
         self,
         crossings: &mut [C],

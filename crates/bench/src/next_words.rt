@@ -1,15 +1,14 @@
-// The next letters of words, by codes. The clauses of the crate's own functions here name the fields of `RuleSizes`, which
-// are the crate's own as well: they are about these very numbers.
+// The next letters of words, by codes.
 ghost use Rattle.std.specs.Prelude.{◌≡◌, ◌+◌, ◌-◌, ◌/◌, ◌%◌, ◌^◌, ◌<◌, ◌*◌, max, length, replicate, slice_index};
 ghost use Rattle.fault.specs.Limits.{most_words};
-ghost use Rattle.bench.specs.Sized.{sized_rule, next_word, KnowsNext};
+ghost use Rattle.bench.specs.KeptSizes.{sized_rule, next_word, KnowsNext};
 
 use crate::sizes::RuleSizes;
 use crate::state::BenchParts;
 use automaton::Rule;
 use fault::limits::MOST_WORDS;
 
-// Room for the next letters of all words of a label: an array, since nothing here is on the heap.
+/// Room for the next letters of all words of a label, of which there are at most 4,096: 8 KiB, and nothing on the heap.
 #[derive(Drop)]
 pub struct NextWords {
     pub(crate) codes: [u16; MOST_WORDS as usize],
@@ -18,6 +17,7 @@ pub struct NextWords {
 impl NextWords {
     ghost use Rattle.bench.specs.States.{codes_in};
 
+    /// Room in which no next letters are known.
     pub fn new() -> NextWords
         ensures { codes_in result ≡ replicate most_words 0 }
     {
@@ -42,19 +42,19 @@ impl<R: Rule, D> BenchParts<R, D> {
     pub(crate) fn next_code(&self, sizes: RuleSizes, code: usize) -> usize
         ensures { result ≡ next_word sizes (R.meaning self.now.rule) code }
     {
-        let mut front = code;
+        let mut prefix = code;
         let mut place = 1;
         let mut next = 0;
         for _ in 0..sizes.k {
-            next += self.last_letter(sizes, front) as usize * place;
+            next += self.last_letter(sizes, prefix) as usize * place;
             place *= sizes.words.q;
-            front /= sizes.words.q;
+            prefix /= sizes.words.q;
         }
         next
     }
 
-    // Writes the next words of the words that are `head` with one letter more, of which all but the last next letter are
-    // the last next letters of `head`.
+    // Writes the next words of the words that are `head` with one letter more, of which all but the last next letter
+    // are the last next letters of `head`.
     fn extend(&self, sizes: RuleSizes, head: usize, strip: &mut [u16])
         requires rule { sized_rule sizes (R.meaning self.now.rule) ≡ R.meaning self.now.rule }
         requires word { (length strip.old ≡ sizes.words.count)

@@ -1,6 +1,6 @@
 // The label of a rule under a density.
 ghost use Rattle.std.specs.Prelude.{◌≡◌, ◌+◌, ◌-◌, ◌/◌, ◌%◌, ◌^◌, ◌<◌, ◌≤◌, length, slice_index, MatchOption};
-ghost use Rattle.bench.specs.Sized.{next_word, KnowsNext};
+ghost use Rattle.bench.specs.KeptSizes.{next_word, KnowsNext};
 
 use crate::sizes::RuleSizes;
 use crate::state::BenchParts;
@@ -8,8 +8,9 @@ use automaton::{Density, Rule};
 use charge::{Charge, difference};
 use criterion::Label;
 
-// The label of a rule under a density, on words of n + k - 1 letters. It finds the next letters of a word in a table of
-// those of the first words, and asks the rule for those of others.
+/// The label of a rule under a density, on words of n + k - 1 letters: the density on the k next letters less the
+/// density on the k letters that stood there.
+// It finds the next letters of a word in a table of those of the first words, and asks the rule for those of others.
 #[derive(Drop)]
 pub struct RuleLabel<'a, R: Rule, D> {
     pub(crate) parts: &'a BenchParts<R, D>,
@@ -45,8 +46,7 @@ impl<C: Charge, R: Rule, D: Density<C>> Label<C> for RuleLabel<'_, R, D> {
 }
 
 impl<R: Rule, D> RuleLabel<'_, R, D> {
-    // The code of the next letters of the word of a code, if there is one. One test is enough where they are known. The
-    // clause names what the label keeps, since the function is the crate's own.
+    // The code of the next letters of the word of a code, if there is one. One test is enough where they are known.
     fn next_word(&self, code: usize) -> Option<usize>
         ensures { let sizes = self.now.sizes in
             let next_of = next_word sizes (R.meaning self.now.parts.now.rule) in

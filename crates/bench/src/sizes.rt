@@ -4,16 +4,17 @@ ghost use Rattle.fault.specs.Answers.{plainly, and_then};
 ghost use Rattle.fault.specs.Refusals.{refusal};
 ghost use Rattle.bench.specs.Verdicts.{fitting, bench_checked, pair_checked};
 
-use crate::subword::Subword;
 use crate::state::BenchParts;
+use crate::subword::Subword;
 use automaton::{Density, Rule, WordSet};
 use charge::Charge;
 use fault::limits::word_count;
 use fault::{Fault, Stop};
 
-// The sizes of the label of a rule under a density: its words, the rule's window and reach, and the density's width; the
-// part of a word that the density weighs before the step; and how many words there are of a window, and of the next letters
-// but one. A label keeps sizes of its own, since its laws are for every `Kind` of its charges, and the tests for one.
+// The sizes of the label of a rule under a density: its words, the rule's window and reach, and the density's width;
+// the part of a word that the density weighs before the step; and how many words there are of a window, and of the next
+// letters but one. A label keeps sizes of its own, since its laws are for every `Kind` of its charges, and the tests
+// for one.
 #[derive(Clone, Copy)]
 pub struct RuleSizes {
     pub(crate) words: WordSet,
@@ -37,13 +38,13 @@ pub struct TwoSizes {
     pub(crate) words: WordSet,
     pub(crate) first: usize,
     pub(crate) second: usize,
-    pub(crate) first_front: Subword,
-    pub(crate) second_front: Subword,
+    pub(crate) first_prefix: Subword,
+    pub(crate) second_prefix: Subword,
     ghost larger: { words.m ≡ max first second },
-    ghost fronts: { (first_front.after ≡ words.q ^ (words.m - first))
-        × (first_front.count ≡ words.q ^ first)
-        × (second_front.after ≡ words.q ^ (words.m - second))
-        × (second_front.count ≡ words.q ^ second) },
+    ghost prefixes: { (first_prefix.after ≡ words.q ^ (words.m - first))
+        × (first_prefix.count ≡ words.q ^ first)
+        × (second_prefix.after ≡ words.q ^ (words.m - second))
+        × (second_prefix.count ≡ words.q ^ second) },
 }
 
 // How many words of m letters two parts of these alphabets have. The bounds on q are those of the first part.
@@ -57,7 +58,7 @@ fn common_words(q: usize, other: usize, m: usize) -> Result<usize, Fault>
 
 impl RuleSizes {
     ghost use Rattle.bench.specs.Benches.{bench_of};
-    ghost use Rattle.bench.specs.Sized.{SizesOf};
+    ghost use Rattle.bench.specs.KeptSizes.{SizesOf};
 
     // The sizes of the label of a rule under a density, where they make a bench.
     pub(crate) fn of<C: Charge, R: Rule, D: Density<C>>(
@@ -89,7 +90,7 @@ impl RuleSizes {
 }
 
 impl TwoSizes {
-    ghost use Rattle.bench.specs.Sized.{TwoSizesOf};
+    ghost use Rattle.bench.specs.KeptSizes.{TwoSizesOf};
 
     // The sizes of the label of two densities, where they can be compared.
     pub(crate) fn of<C: Charge, D: Density<C>, E: Density<C>>(
@@ -112,8 +113,8 @@ impl TwoSizes {
             words,
             first,
             second,
-            first_front: Subword::of(words, first, m - first),
-            second_front: Subword::of(words, second, m - second),
+            first_prefix: Subword::of(words, first, m - first),
+            second_prefix: Subword::of(words, second, m - second),
         })
     }
 }

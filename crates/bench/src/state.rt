@@ -1,7 +1,7 @@
 // The states of a bench, moved from call to call: drafted, and after its one verdict holding or breaking.
 ghost use Rattle.std.specs.Prelude.{◌≡◌};
 ghost use Rattle.bench.specs.Laws.{NoneChanges, SomeChanges};
-ghost use Rattle.bench.specs.Sized.{SizesOf};
+ghost use Rattle.bench.specs.KeptSizes.{SizesOf};
 
 use crate::sizes::RuleSizes;
 use automaton::{Density, Rule};
@@ -9,14 +9,17 @@ use charge::Charge;
 use fault::Fault;
 use std::marker::PhantomData;
 
-// A rule and a density.
+/// A rule and a density.
 #[derive(Drop)]
 pub struct BenchParts<R, D> {
+    /// The rule.
     pub rule: R,
+    /// The density.
     pub density: D,
 }
 
-// A bench that has not been judged: a rule and a density over one alphabet, whose words are few.
+/// A bench that has not been judged: a rule and a density over one alphabet, with at most 4,096 words of the
+/// n + k - 1 letters that a label takes.
 #[derive(Drop)]
 pub struct Draft<C: Charge, R: Rule, D: Density<C>> {
     pub(crate) parts: BenchParts<R, D>,
@@ -25,48 +28,60 @@ pub struct Draft<C: Charge, R: Rule, D: Density<C>> {
     ghost sized: { SizesOf sizes (R.meaning parts.rule) (D.weights C.kind parts.density) },
 }
 
-// A bench on which no ring changes its total: its type says so, and none can be made of another bench.
+/// A bench on which no ring of any length changes its total in a step.
+///
+/// Only `Draft::judge` makes one, so whoever is handed one need not judge it again.
 #[derive(Drop)]
 pub struct Holding<C: Charge, R: Rule, D: Density<C>> {
     pub(crate) parts: BenchParts<R, D>,
     pub(crate) sizes: RuleSizes,
     pub(crate) kind: PhantomData<C>,
     ghost sized: { SizesOf sizes (R.meaning parts.rule) (D.weights C.kind parts.density) },
+    /// No ring changes its total in a step.
     pub ghost holds: { NoneChanges C.kind.group (R.meaning parts.rule)
         (D.weights C.kind parts.density) },
 }
 
-// A bench on which some ring changes its total: its type says so, too.
+/// A bench on which some ring of at most 2 (n + k) - 3 cells changes its total in a step.
+///
+/// Only `Draft::judge` makes one.
 #[derive(Drop)]
 pub struct Breaking<C: Charge, R: Rule, D: Density<C>> {
     pub(crate) parts: BenchParts<R, D>,
     pub(crate) kind: PhantomData<C>,
+    /// Some ring changes its total in a step.
     pub ghost breaks: { SomeChanges C.kind.group (R.meaning parts.rule)
         (D.weights C.kind parts.density) },
 }
 
-// A failing word by its code, the length of the ring that shows it, and two totals of that ring: before and after one
-// step, or under the first density and the second. The ring is on the strip that the caller lent.
+/// A failing word, and two totals of the ring that shows it. The ring is at the front of the strip that was lent.
 #[derive(Clone, Copy, PartialEq, Eq, Debug)]
 pub struct Break<C> {
+    /// The code of the word: its value in base q, the first letter as the highest digit.
     pub word: usize,
+    /// How many cells the ring has.
     pub len: usize,
+    /// The total of the ring before the step, or under the first density.
     pub first: C,
+    /// The total of the ring after the step, or under the second density.
     pub second: C,
 }
 
-// A bench in its next state: H where it holds, and B where it breaks. An enum of its own, since neither case is an error,
-// as one would be in a `Result`.
+/// A bench in its next state: H where it holds, and B where it breaks.
+///
+/// An enum of its own, since neither case is an error, as one would be in a `Result`.
 #[derive(Drop)]
 pub enum Verdict<C, H, B> {
+    /// No ring changes its total in a step.
     Holds(H),
+    /// Some ring does, and this one shows it.
     Breaks(B, Break<C>),
 }
 
 impl<C: Drop, H: Drop, B: Drop> Verdict<C, H, B> {
     ghost use Rattle.bench.specs.Answers.{break_of};
 
-    // The break, if there is one, without the bench.
+    /// The break, if there is one, without the bench.
     pub fn found(self) -> Option<Break<C>>
         ensures { result ≡ break_of self }
     {
@@ -77,17 +92,19 @@ impl<C: Drop, H: Drop, B: Drop> Verdict<C, H, B> {
     }
 }
 
-// What comparing two densities says: they agree on the total of every ring, or differ on the ring that is shown.
+/// What comparing two densities says.
 #[derive(Clone, Copy, PartialEq, Eq, Debug)]
 pub enum Comparison<C> {
+    /// No ring has two totals.
     Agree,
+    /// Some ring has, and this one shows it.
     Differ(Break<C>),
 }
 
 impl<C: Drop> Comparison<C> {
     ghost use Rattle.bench.specs.Answers.{difference_of};
 
-    // The difference, if there is one.
+    /// The difference, if there is one.
     pub fn found(self) -> Option<Break<C>>
         ensures { result ≡ difference_of self }
     {
@@ -98,10 +115,12 @@ impl<C: Drop> Comparison<C> {
     }
 }
 
-// A refusal, with what was handed over as it stood.
+/// A refusal, with what was handed over as it stood. `?` makes a `Fault` of it, and lets go of the rest.
 #[derive(Drop)]
 pub struct Refused<S> {
+    /// What was handed over, unchanged.
     pub state: S,
+    /// Why it was refused, and at which place.
     pub fault: Fault,
 }
 

@@ -1,5 +1,4 @@
-// BenchParts of words, by their codes. The clauses name the fields of `Subword`: both are the crate's own, and a part is these two
-// numbers.
+// Parts of words, by their codes.
 ghost use Rattle.std.specs.Prelude.{◌≡◌, ◌+◌, ◌/◌, ◌%◌, ◌^◌, ◌≤◌};
 
 use automaton::WordSet;

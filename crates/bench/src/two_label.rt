@@ -6,7 +6,8 @@ use automaton::Density;
 use charge::{Charge, difference};
 use criterion::Label;
 
-// The label of two densities: the first less the second, each on the leading letters of a word.
+/// The label of two densities, on words of as many letters as the larger width has: the first density less the second,
+/// each on the leading letters of a word.
 #[derive(Drop)]
 pub struct TwoLabel<'a, 'b, D, E> {
     pub(crate) first: &'a D,
@@ -33,8 +34,8 @@ impl<C: Charge, D: Density<C>, E: Density<C>> Label<C> for TwoLabel<'_, '_, D, E
         if code >= self.sizes.words.count {
             return C::zero();
         }
-        let weighed = self.first.charge(self.sizes.first_front.code(code));
-        let less = self.second.charge(self.sizes.second_front.code(code));
+        let weighed = self.first.charge(self.sizes.first_prefix.code(code));
+        let less = self.second.charge(self.sizes.second_prefix.code(code));
         difference(weighed, less)
     }
 }

@@ -38,7 +38,7 @@ module _ {C : Type 0} (K : Kind C) (h : Header) (letters : List ℕ) (charges : 
       let d = preset_density K h charges in
       let label = rule_label_list K.group r d in
       ap (λ (b : Bool). and_then (bench_checked_of K h letters charges) (λ _. and_then (bench_checked (bench_of K r d)) (λ _.
-      cond (b && nat_le (2 * label.k - 1) cells) (Ok (failure K padding label)) (Err (refused_at ShortStrip 0)))))
+      cond (b && nat_le (2 * label.m - 1) cells) (Ok (failure K padding label)) (Err (refused_at ShortStrip 0)))))
       (le-min (h.q ^ (h.n + h.k - 1 - 1)) room most_words (crossings_few h sized))
 
   pub judged-on : (S : Sending C) (entries old new : List Entry) (strip ring : List ℕ) (work now : List C) (verdict : Result (Option (Break C)) Fault) (count : ℕ) (answer : JudgeAnswer)

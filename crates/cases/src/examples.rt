@@ -47,7 +47,7 @@ pub fn worked_examples()
     // which is 0 in pitch, so 00 is shown.
     ensures gain_000 { gain integers ones (weighing (pos 0) (pos 4)) (0 ∷ 0 ∷ 0 ∷ []) ≡ pos 12 }
     ensures twelve_in_pitch { class 12 ≡ class 0 }
-    ensures sum_000 { sums_to_zero pitch (label_of bench_of_ones) (ring_a padding 1 (0 ∷ 0 ∷ []))
+    ensures sum_000 { sums_to_zero pitch (label_of bench_of_ones) (ring_a padding 2 (0 ∷ 0 ∷ []))
         ≡ true }
     ensures ones_in_pitch { judging bench_of_ones 2 3 ≡ broken_at 0 2 (class 0) (class 8) }
     ensures ring_of_ones { judge_found bench_of_ones 2 3 ≡ Ok (Some (0, 0 ∷ 0 ∷ [])) }

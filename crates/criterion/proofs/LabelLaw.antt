@@ -1,11 +1,10 @@
 -- What the search says of all rings, from the criterion. Assumes nothing.
-use Rattle.std.proofs.Common.{◌≡◌, ℕ, zero, suc, ◌+◌, ◌-◌, ◌^◌, ◌<◌, Bool, true, false, cond, not, List, take, drop, Some, None, Option, sym, refl, ap, ◌∙◌, subst, add-zero, arith}
+use Rattle.std.proofs.Common.{◌≡◌, ℕ, zero, suc, ◌+◌, ◌-◌, ◌^◌, ◌<◌, ◌↔◌, Bool, true, false, cond, not, List, take, drop, Some, None, Option, sym, refl, ap, ◌∙◌, add-zero, arith}
 use Rattle.std.proofs.lemmas.Bool.{true≢false, not-false, cond_both}
 use Rattle.std.specs.Option.{option_map}
 use Rattle.charge.specs.Groups.{Kind, minus}
 use Rattle.automaton.specs.Words.{Word, word}
-use Rattle.automaton.specs.Meanings.{Weights, weight}
-use Rattle.criterion.specs.Labelled.{Labelled}
+use Rattle.criterion.specs.Labelled.{LabelList, label_at, Labelled}
 use Rattle.automaton.proofs.Codes.{word-word, every-word}
 use Rattle.criterion.specs.Balance.{ring_sum, Balanced, ring_a, ring_b, SumsToZero}
 use Rattle.criterion.proofs.Statements.{Holds}
@@ -13,7 +12,7 @@ use Rattle.criterion.specs.Search.{first_of, J, fails, failing, sums_to_zero, sh
 use Rattle.criterion.specs.Laws.{Exact, BreakingRing, Shows, LabelLaw}
 use Rattle.criterion.proofs.Criterion.{criterion, break_shown}
 use Rattle.criterion.proofs.Uniqueness.{crossing_only, crossing_zero}
-use Rattle.criterion.proofs.Sizes.{some-letters, one_more}
+use Rattle.criterion.proofs.Sizes.{some-letters}
 
 module _ (test : ℕ → Bool) where
   -- none is first exactly when none passes
@@ -42,68 +41,61 @@ module _ (test : ℕ → Bool) where
       go true is e after = let same : i ≡ c = grind arith in ap test (sym same) ∙ is
       go false is e after = after e
 
-module _ {C : Type 0} (K : Kind C) (z : ℕ) (d : Weights K.group.Carrier) (labelled : Labelled d) (some : z < d.q) where
+module _ {C : Type 0} (K : Kind C) (z : ℕ) (d : LabelList K.group.Carrier) (labelled : Labelled d) (some : z < d.q) where
   abbrev label : List ℕ → K.group.Carrier
-  label = weight K.group d
-
-  abbrev r : ℕ
-  r = d.k - 1
+  label = label_at K.group d
 
   abbrev Even : List ℕ → Type 0
-  Even w = Balanced K.group label r (J K z d) w
+  Even w = Balanced K.group label d.m (J K z d) w
 
   even_from : (w : List ℕ) → fails K z d w ≡ false → Even w
-  even_from w e = (K.decides (label w) (minus K.group (J K z d (take r w)) (J K z d (drop 1 w)))).0 (not-false _ e)
+  even_from w e = (K.decides (label w) (minus K.group (J K z d (take (d.m - 1) w)) (J K z d (drop 1 w)))).0 (not-false _ e)
 
   from_even : (w : List ℕ) → Even w → fails K z d w ≡ false
-  from_even w even = ap not ((K.decides (label w) (minus K.group (J K z d (take r w)) (J K z d (drop 1 w)))).1 even)
+  from_even w even = ap not ((K.decides (label w) (minus K.group (J K z d (take (d.m - 1) w)) (J K z d (drop 1 w)))).1 even)
 
   abbrev test : ℕ → Bool
-  test c = fails K z d (word d.q d.k c)
+  test c = fails K z d (word d.q d.m c)
 
   -- a word by its code, with the ring that shows it
   abbrev found : ℕ → ℕ × List ℕ
-  found c = (c, shown K z d (word d.q d.k c))
+  found c = (c, shown K z d (word d.q d.m c))
 
   -- no word fails
-  holds : failing K z d ≡ None → Holds K.group label z d.q r
+  holds : failing K z d ≡ None → Holds K.group label z d.q d.m
   holds e w is =
-      (every-word d.q (some-letters d labelled) Even d.k).0
-      (λ c h. even_from (word d.q d.k c) (ap test (omega arith) ∙ first_none test 0 (d.q ^ d.k) e c h))
-      w (is.0 ∙ one_more d labelled, is.1)
+      (every-word d.q (some-letters d labelled) Even d.m).0
+      (λ c h. even_from (word d.q d.m c) (ap test (omega arith) ∙ first_none test 0 (d.q ^ d.m) e c h))
+      w is
 
-  holds_none : Holds K.group label z d.q r → failing K z d ≡ None
+  holds_none : Holds K.group label z d.q d.m → failing K z d ≡ None
   holds_none all =
-      none_first test 0 (d.q ^ d.k)
-      (λ t h. let is = word-word d.q (some-letters d labelled) d.k (0 + t) in
-      from_even (word d.q d.k (0 + t)) (all (word d.q d.k (0 + t)) (is.0 ∙ sym (one_more d labelled), is.1)))
+      none_first test 0 (d.q ^ d.m)
+      (λ t h. from_even (word d.q d.m (0 + t)) (all (word d.q d.m (0 + t)) (word-word d.q (some-letters d labelled) d.m (0 + t))))
 
   exact : Exact K z d
   exact = (
-    (λ e. subst (SumsToZero K.group label d.q) (one_more d labelled) ((criterion K.group z label d.q r some).0 (holds (unmapped (failing K z d) e)))),
-    (λ sums. ap (option_map found)
-        (holds_none ((criterion K.group z label d.q r some).1 (subst (SumsToZero K.group label d.q) (sym (one_more d labelled)) sums)))),
+    (λ e. both.0 (holds (unmapped (failing K z d) e))),
+    (λ sums. ap (option_map found) (holds_none (both.1 sums))),
   )
     where
+      both : Holds K.group label z d.q d.m ↔ SumsToZero K.group label d.q d.m
+      both = criterion K.group z label d.q d.m some labelled.sizes.2
+
       unmapped : (o : Option ℕ) → option_map found o ≡ None → o ≡ None
       unmapped None e = refl
       unmapped (Some c) e = absurd (grind arith)
 
-  breaks : (w : List ℕ) → Word d.q (suc r) w → (Even w → ⊥) → BreakingRing K z d (shown K z d w)
+  breaks : (w : List ℕ) → Word d.q d.m w → (Even w → ⊥) → BreakingRing K z d (shown K z d w)
   breaks w is uneven =
-      let rings = break_shown K.group z label d.q r w some is uneven in
-      let more = one_more d labelled in
-      let decided = K.decides (ring_sum K.group label d.k (ring_a z r w)) K.group.zero in
-      cond_both (sums_to_zero K d (ring_a z r w)) (ring_b z r w) (ring_a z r w) (BreakingRing K z d)
+      let rings = break_shown K.group z label d.q d.m w some labelled.sizes.2 is uneven in
+      let decided = K.decides (ring_sum K.group label d.m (ring_a z d.m w)) K.group.zero in
+      cond_both (sums_to_zero K d (ring_a z d.m w)) (ring_b z d.m w) (ring_a z d.m w) (BreakingRing K z d)
       (λ is_zero.
-      let B = rings.2 (subst (λ m. ring_sum K.group label m (ring_a z r w) ≡ K.group.zero) (sym more) (decided.0 is_zero)) in (
-        omega (arith, B.0, rings.1.0),
-        omega (arith, rings.1.0),
-        rings.1.1,
-        λ e. B.1 (subst (λ m. ring_sum K.group label m (ring_b z r w) ≡ K.group.zero) (sym more) e),
-      ))
+      let B = rings.2 (decided.0 is_zero) in
+      (omega (arith, B.0, rings.1.0), omega (arith, rings.1.0), rings.1.1, B.1))
       (λ not-zero. (
-        omega (arith, rings.0.0),
+        omega (arith, labelled.sizes.2, rings.0.0),
         omega (arith, rings.0.0),
         rings.0.1,
         λ e. true≢false (sym (decided.1 e) ∙ not-zero),
@@ -112,11 +104,10 @@ module _ {C : Type 0} (K : Kind C) (z : ℕ) (d : Weights K.group.Carrier) (labe
   shows : (o : Option ℕ) → failing K z d ≡ o → Shows K z d (option_map found o)
   shows None e =
       let all = holds e in
-      (all, crossing_zero K.group z label d.q r some all, λ T balances nothing v is. crossing_only K.group z label T d.q r some balances nothing v is)
+      (all, crossing_zero K.group z label d.q d.m some labelled.sizes.2 all, λ T balances nothing v is. crossing_only K.group z label T d.q d.m some balances nothing v is)
   shows (Some c) e =
-      let is = word-word d.q (some-letters d labelled) d.k c in
-      breaks (word d.q d.k c) (is.0 ∙ sym (one_more d labelled), is.1)
-      (λ even. true≢false (sym (first_passes test 0 (d.q ^ d.k) c e) ∙ from_even (word d.q d.k c) even))
+      breaks (word d.q d.m c) (word-word d.q (some-letters d labelled) d.m c)
+      (λ even. true≢false (sym (first_passes test 0 (d.q ^ d.m) c e) ∙ from_even (word d.q d.m c) even))
 
   pub label_law : LabelLaw K z d
   label_law = (exact, shows (failing K z d) refl)

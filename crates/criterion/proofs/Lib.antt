@@ -1,6 +1,6 @@
 pub mod Criterion
 pub mod Failing
-pub mod Fronts
+pub mod Prefixes
 pub mod LabelLaw
 pub mod Pads
 pub mod RingShown

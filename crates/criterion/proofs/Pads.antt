@@ -1,10 +1,14 @@
 -- The ring of a word and then letters z, and its windows. Assumes nothing.
-use Rattle.std.proofs.Common.{◌≡◌, ℕ, zero, suc, ◌+◌, ◌-◌, ◌*◌, ◌<◌, ◌≤◌, List, [], ◌∷◌, ◌++◌, length, get_or, take, sym, refl, ap, ◌∙◌, ap₂, add-zero, suc-add, arith, length-append, length-drop}
+use Rattle.std.proofs.Common.{◌≡◌, ℕ, zero, suc, ◌+◌, ◌-◌, ◌*◌, ◌<◌, ◌≤◌, List, [], ◌∷◌, ◌++◌, length, get_or, take, drop, sym, refl, ap, ◌∙◌, ap₂, add-zero, suc-add, arith, length-append, length-drop}
 use lib.ListN.{length-replicate}
 use Rattle.std.proofs.lemmas.List.{get_or_past, get_or_default}
 use Rattle.automaton.specs.Words.{Word, repeated, window, cell}
 use Rattle.automaton.proofs.Rings.{window_same, window-append, window_turn, cell_turn, cell_inside, letters-append, letters-drop, letters-repeated}
 use Rattle.criterion.specs.Balance.{ring_a, ring_b}
+
+-- a window without its first letter
+pub window_rest : (m : ℕ) → 1 ≤ m → (s : ℕ → ℕ) (i : ℕ) → drop 1 (window m s i) ≡ window (m - 1) s (suc i)
+window_rest m long s i = let one_more : m ≡ suc (m - 1) = omega arith in ap (λ n. drop 1 (window n s i)) one_more
 
 module _ (z : ℕ) where
   -- letter i of v, and z past its end
@@ -35,37 +39,42 @@ module _ (z : ℕ) where
   pub length_pad : (v : List ℕ) (n : ℕ) → length (v ++ repeated z n) ≡ length v + n
   length_pad v n = length-append v (repeated z n) ∙ ap (λ k. length v + k) (length-replicate n z)
 
-  -- the ring of v and then r letters z
-  module _ (v : List ℕ) (r : ℕ) (fits : r ≤ length v) where
-    pad_inside : (i : ℕ) → i < length v + r → cell (v ++ repeated z r) i ≡ place v i
+  -- the ring of v and then m - 1 letters z
+  module _ (v : List ℕ) (m : ℕ) (long : 1 ≤ m) (fits : m - 1 ≤ length v) where
+    abbrev padded : List ℕ
+    padded = v ++ repeated z (m - 1)
+
+    pad_inside : (i : ℕ) → i < length v + (m - 1) → cell padded i ≡ place v i
     pad_inside i h =
-        cell_inside (v ++ repeated z r) i (omega (arith, length_pad v r))
-        ∙ get_or_default (v ++ repeated z r) i 0 z (omega (arith, length_pad v r))
-        ∙ place_pad v r i
+        cell_inside padded i (omega (arith, length_pad v (m - 1)))
+        ∙ get_or_default padded i 0 z (omega (arith, length_pad v (m - 1)))
+        ∙ place_pad v (m - 1) i
 
     -- the windows that begin in v
-    pub pad-first : (i : ℕ) → i < length v → window (suc r) (cell (v ++ repeated z r)) i ≡ window (suc r) (place v) i
-    pad-first i h = window_same (suc r) (cell (v ++ repeated z r)) (place v) i i (λ t l. pad_inside (i + t) (omega arith))
+    pub pad-first : (i : ℕ) → i < length v → window m (cell padded) i ≡ window m (place v) i
+    pad-first i h = window_same m (cell padded) (place v) i i (λ t l. pad_inside (i + t) (omega arith))
 
     -- the windows that begin after v
-    pub pad_last : (j : ℕ) → j < r → window (suc r) (cell (v ++ repeated z r)) (length v + j) ≡ repeated z (r - j) ++ take (suc j) v
+    pub pad_last : (j : ℕ) → j < m - 1 → window m (cell padded) (length v + j) ≡ repeated z (m - 1 - j) ++ take (suc j) v
     pad_last j h =
-        let s : ℕ → ℕ = cell (v ++ repeated z r) in
-        let size : suc r ≡ (r - j) + suc j = omega arith in
-        let round : length v + j + (r - j) ≡ 0 + length (v ++ repeated z r) = omega (arith, length_pad v r) in
+        let s : ℕ → ℕ = cell padded in
+        let size : m ≡ (m - 1 - j) + suc j = omega arith in
+        let round : length v + j + (m - 1 - j) ≡ 0 + length padded = omega (arith, length_pad v (m - 1)) in
         ap (λ n. window n s (length v + j)) size
-        ∙ window-append (r - j) (suc j) s (length v + j)
+        ∙ window-append (m - 1 - j) (suc j) s (length v + j)
         ∙ ap₂ ◌++◌
-        (window-repeated (r - j) s (length v + j)
+        (window-repeated (m - 1 - j) s (length v + j)
         (λ t l. pad_inside (length v + j + t) (omega arith) ∙ get_or_past v (length v + j + t) z (omega arith)))
         (ap (window (suc j) s) round
-        ∙ window_turn (suc j) s (length (v ++ repeated z r)) (cell_turn (v ++ repeated z r)) 0
+        ∙ window_turn (suc j) s (length padded) (cell_turn padded) 0
         ∙ window_same (suc j) s (place v) 0 0 (λ t l. pad_inside (0 + t) (omega arith))
         ∙ window-take (suc j) v (omega arith))
 
-  pub word_a : (q r : ℕ) (w : List ℕ) → z < q → Word q (suc r) w → Word q (2 * r + 1) (ring_a z r w)
-  word_a q r w some word = (omega (arith, length_pad w r), letters-append q w (repeated z r) word.1 (letters-repeated q z r some))
+  pub word_a : (q m : ℕ) (w : List ℕ) → z < q → 1 ≤ m → Word q m w → Word q (2 * m - 1) (ring_a z m w)
+  word_a q m w some long word =
+      (omega (arith, length_pad w (m - 1)), letters-append q w (repeated z (m - 1)) word.1 (letters-repeated q z (m - 1) some))
 
-  pub word_b : (q r : ℕ) (w : List ℕ) → z < q → Word q (suc r) w → Word q (2 * r) (ring_b z r w)
-  word_b q r w some word =
-      (omega (arith, length-drop 1 (ring_a z r w), word_a q r w some word), letters-drop q 1 (ring_a z r w) (word_a q r w some word).1)
+  pub word_b : (q m : ℕ) (w : List ℕ) → z < q → 1 ≤ m → Word q m w → Word q (2 * m - 2) (ring_b z m w)
+  word_b q m w some long word =
+      let a = word_a q m w some long word in
+      (omega (arith, length-drop 1 (ring_a z m w), a.0), letters-drop q 1 (ring_a z m w) a.1)

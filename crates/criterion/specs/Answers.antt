@@ -4,7 +4,7 @@ use Rattle.std.specs.Option.{option_map}
 use Rattle.fault.specs.declared.Fault.{Fault}
 use Rattle.fault.specs.Refusals.{Refusal, refusal}
 use Rattle.charge.specs.Groups.{Kind}
-use Rattle.automaton.specs.Meanings.{Weights}
+use Rattle.criterion.specs.Labelled.{LabelList}
 use Rattle.criterion.specs.Search.{crossings, failure, with_room}
 use Rattle.criterion.specs.declared.search.Failure.{Failure}
 
@@ -29,7 +29,7 @@ abbrev pub unless_refused : {X Y : Type 0} → Result Y Refusal → List X → L
 unless_refused (Ok y) xs = xs
 unless_refused (Err f) xs = []
 
-module _ {C : Type 0} (K : Kind C) (z : ℕ) (d : Weights K.group.Carrier) (crossing_room ring_room : ℕ) where
+module _ {C : Type 0} (K : Kind C) (z : ℕ) (d : LabelList K.group.Carrier) (crossing_room ring_room : ℕ) where
   -- the answer for strips of these lengths
   abbrev pub examined : Result (Option (ℕ × List ℕ)) Refusal
   examined = with_room K z d crossing_room ring_room (failure K z d)

@@ -15,21 +15,23 @@ use crate::shown::write_shown;
 use charge::{Charge, difference};
 use fault::{Fault, Stop};
 
-// A word that fails, by its code, and the length of the ring that shows it.
+/// A word that fails, and the length of the ring that shows it.
 #[derive(Clone, Copy, PartialEq, Eq, Debug)]
 pub struct Failure {
+    /// The code of the word: its value in base q, the first of its m letters as the highest digit.
     pub word: usize,
+    /// How many cells the ring has: 2 m - 1, or 2 m - 2 where the labels of the longer ring sum to zero.
     pub len: usize,
 }
 
-// The code of the word with the first letters of code `head` and the letter `last`. The bounds stand here, since a label's
-// methods answer plain numbers.
+// The code of the word with the first letters of code `head` and the letter `last`. The bounds stand here, since a
+// label's methods answer plain numbers.
 fn code_of(q: usize, heads: usize, head: usize, last: usize) -> usize
     requires small { (q ≤ 8) × (heads ≤ 4096) }
     requires within { (head < heads) × (last < q) }
     ensures is { result ≡ head * q + last }
     ensures below { result < heads * q }
-    ensures front { result / q ≡ head }
+    ensures prefix { result / q ≡ head }
 {
     head * q + last
 }
@@ -48,10 +50,10 @@ fn labelled<C: Charge, L: Label<C>>(label: &L, code: usize, charge: C) -> bool
 fn fails<C: Charge, L: Label<C>>(label: &L, crossings: &[C], head: usize, code: usize) -> bool
     requires filled { map C.kind.means crossings.now
         ≡ crossings_of C.kind padding (L.labels C.kind label.now) }
-    requires front { (code / (L.labels C.kind label.now).q ≡ head)
+    requires prefix { (code / (L.labels C.kind label.now).q ≡ head)
         × (head < length crossings.now) }
     ensures { let d = L.labels C.kind label.now in
-        result ≡ fails_at C.kind padding d (word d.q d.k code) }
+        result ≡ fails_at C.kind padding d (word d.q d.m code) }
 {
     let crosses = difference(crossings[head], crossings[code % crossings.len()]);
     !labelled(label, code, crosses)
@@ -91,9 +93,20 @@ fn check_room<C: Charge, L: Label<C>>(
     Stop::ShortStrip.unless(head_count(label) <= crossing_room && 2 * label.m() - 1 <= ring_room)
 }
 
-// Fills the front of a strip with the crossings of a label. If a word fails, answers the one with the smallest code,
-// and writes the ring that shows it to the front of another strip. The two strips make no struct, through which clauses
-// would reach each of them by two references.
+/// Whether a word fails under a label: its charge is not the crossing of its first m - 1 letters less that of its last.
+///
+/// The crossings of all words of m - 1 letters go to the front of `crossings`, in the order of the codes. If a word
+/// fails, the one with the smallest code is answered, and a ring on whose windows the labels do not sum to zero is
+/// written to the front of `ring`. Where none is answered, the labels sum to zero on the rings of every length.
+///
+/// Refused by `Stop::ShortStrip` at place 0 where `crossings` has fewer than q^(m - 1) charges or `ring` fewer than 2 m
+/// - 1 cells, of which `MOST_SHOWN` are always enough. Then nothing is written.
+///
+/// ```rust
+/// if let Some(Failure { word, len }) = examine(&label, &mut crossings, &mut ring)? {
+///     // the word of code `word` fails, and `ring[..len]` shows it
+/// }
+/// ```
 pub fn examine<C: Charge, L: Label<C>>(
     label: &L,
     crossings: &mut [C],

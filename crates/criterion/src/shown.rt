@@ -9,8 +9,9 @@ use automaton::{Density, total};
 use charge::Charge;
 use fault::Fault;
 
-// The longest ring that is shown: a word of 12 letters and 11 zeros. Arrays of so many cells hold it, since nothing here
-// is on the heap.
+/// How many cells the longest ring has that is shown: a word of 12 letters and 11 zeros.
+///
+/// A strip of so many cells, such as `[0u8; MOST_SHOWN]`, is never too short for one.
 pub const MOST_SHOWN: usize = 23;
 
 // Writes the word of a code, of as many letters as there is room for. The range is reversed, and not the slots: of
@@ -61,11 +62,11 @@ pub(crate) fn write_shown<C: Charge, L: Label<C>>(
     code: usize,
     strip: &mut [u8],
 ) -> Result<usize, Fault>
-    requires { 2 * (L.labels C.kind label.now).k - 1 ≤ length strip.old }
+    requires { 2 * (L.labels C.kind label.now).m - 1 ≤ length strip.old }
     ensures answer { let d = L.labels C.kind label.now in
-        plainly result ≡ Ok (length (shown C.kind padding d (word d.q d.k code))) }
+        plainly result ≡ Ok (length (shown C.kind padding d (word d.q d.m code))) }
     ensures strip { let d = L.labels C.kind label.now in
-        strip.new ≡ at_front (shown C.kind padding d (word d.q d.k code)) strip.old }
+        strip.new ≡ at_front (shown C.kind padding d (word d.q d.m code)) strip.old }
 {
     let m = label.m();
     let mut cells = [0u8; MOST_SHOWN];

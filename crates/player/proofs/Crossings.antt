@@ -15,7 +15,7 @@ module _ {C : Type 0} (K : Kind C) (r : Local) (d : Weights K.group.Carrier) whe
       ≡ crossing_at K r d c i
   crossing-code q c i same some long below =
       let label = rule_label_list K.group r d in
-      let m : ℕ = label.k - 1 in
+      let m : ℕ = label.m - 1 in
       let w : List ℕ = window (r.n + d.k - 2) (cell c) (before (length c) r.l i) in
       let rest : r.n + d.k - 2 ≡ m = omega arith in
       let is : Word r.q m w = subst (λ (p : ℕ × ℕ). Word p.0 p.1 w) (λ j. (same j, rest j)) (ring-word q (r.n + d.k - 2) c long below (before (length c) r.l i)) in

@@ -54,14 +54,14 @@ judged_for {C} {H} {B} {S} {K} n room b old result new judged = go (nat_le n roo
     }
 
 -- a table of crossings that is the only one, by another that has the same at each word
-only_same : (G : Group) (D : List ℕ → G.Carrier) (z q r : ℕ) (J T : List ℕ → G.Carrier) → z < q → ((v : List ℕ) → Word q r v → T v ≡ J v) →
-    OnlyTable G D z q r J → OnlyTable G D z q r T
-only_same G D z q r J T some same only = (
+only_same : (G : Group) (D : List ℕ → G.Carrier) (z q m : ℕ) (J T : List ℕ → G.Carrier) → z < q → ((v : List ℕ) → Word q (m - 1) v → T v ≡ J v) →
+    OnlyTable G D z q m J → OnlyTable G D z q m T
+only_same G D z q m J T some same only = (
   (λ w is.
-      let first : Word q r (take r w) = (length-take-le r w (omega (arith, is.0)), letters-take q r w is.1) in
-      let last : Word q r (drop 1 w) = (omega (arith, is.0, length-drop 1 w), letters-drop q 1 w is.1) in
-      only.0 w is ∙ sym (ap₂ (minus G) (same (take r w) first) (same (drop 1 w) last))),
-  same (repeated z r) (repeated-word q z r some) ∙ only.1,
+      let first : Word q (m - 1) (take (m - 1) w) = (length-take-le (m - 1) w (omega (arith, is.0)), letters-take q (m - 1) w is.1) in
+      let last : Word q (m - 1) (drop 1 w) = (omega (arith, is.0, length-drop 1 w), letters-drop q 1 w is.1) in
+      only.0 w is ∙ sym (ap₂ (minus G) (same (take (m - 1) w) first) (same (drop 1 w) last))),
+  same (repeated z (m - 1)) (repeated-word q z (m - 1) some) ∙ only.1,
   λ S balances zero v is. only.2 S balances zero v is ∙ sym (same v is),
 )
 
@@ -78,28 +78,26 @@ module _ {C : Type 0} (K : Kind C) (r : Local) (d : Weights K.group.Carrier) (la
   verdict_true (Err f) ring old right e = tt
 
   -- the strip of crossings at a word
-  strip_at : (old new : List C) → FrontMeans K (crossings K padding (rule_label_list K.group r d)) old new → (v : List ℕ) → Word r.q (r.n + d.k - 2) v →
+  strip_at : (old new : List C) → FrontMeans K (crossings K padding (rule_label_list K.group r d)) old new → (v : List ℕ) → Word r.q (r.n + d.k - 1 - 1) v →
       get_or (map K.means new) (code r.q v) K.group.zero ≡ J K padding (rule_label_list K.group r d) v
   strip_at old new fronts v is =
       let label = rule_label_list K.group r d in
-      let m : ℕ = label.k - 1 in
-      let rest : r.n + d.k - 2 ≡ m = omega arith in
-      let is' : Word r.q m v = subst (λ n. Word r.q n v) rest is in
+      let m : ℕ = label.m - 1 in
       let xs = crossings K padding label in
       let at : ℕ → K.group.Carrier = λ c. J K padding label (word r.q m c) in
       let size : length xs ≡ r.q ^ m = length-table (r.q ^ m) at in
-      let inside : code r.q v < r.q ^ m = code_lt r.q m v is' in
+      let inside : code r.q v < r.q ^ m = code_lt r.q m v is in
       let sizes = lawful.sizes in
       ap (λ t. get_or t (code r.q v) K.group.zero) (front-means K xs (r.q ^ m) old new fronts size)
       ∙ get_or_append_left xs (drop (r.q ^ m) (map K.means old)) K.group.zero (code r.q v) (omega (arith, size, inside))
       ∙ get_or-table (r.q ^ m) at K.group.zero (code r.q v) inside
-      ∙ ap (J K padding label) (word-code r.q (omega (arith, sizes.0)) m v is')
+      ∙ ap (J K padding label) (word-code r.q (omega (arith, sizes.0)) m v is)
 
   pub crossings_true : (found : Result (Option (ℕ × List ℕ)) Refusal) (old new : List C) → VerdictRight (bench_of K r d) found →
       FrontMeans K (unless_refused found (crossings K padding (rule_label_list K.group r d))) old new → CrossingsTrue (bench_of K r d) (verdict found) (map K.means new)
   crossings_true (Ok None) old new right fronts =
       let sizes = lawful.sizes in
-      only_same K.group (rule_label K.group r d) padding r.q (r.n + d.k - 2) (J K padding (rule_label_list K.group r d)) (λ v. get_or (map K.means new) (code r.q v) K.group.zero)
+      only_same K.group (rule_label K.group r d) padding r.q (r.n + d.k - 1) (J K padding (rule_label_list K.group r d)) (λ v. get_or (map K.means new) (code r.q v) K.group.zero)
       (omega (arith, sizes.0)) (strip_at old new fronts) right.1
   crossings_true (Ok (Some f)) old new right fronts = tt
   crossings_true (Err f) old new right fronts = tt

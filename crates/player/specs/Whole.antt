@@ -45,7 +45,7 @@ module _ {C : Type 0} {K : Kind C} (b : Bench K) where
   -- table that does both equals it at each word
   abbrev pub CrossingsTrue : Result (Judgement K.group.Carrier) Refusal → List K.group.Carrier → Type 0
   CrossingsTrue (Ok holds) strip =
-      OnlyTable K.group (rule_label K.group b.rule b.density) padding b.rule.q (b.rule.n + b.density.k - 2) (λ v. slice_index_or strip (code b.rule.q v) K.group.zero)
+      OnlyTable K.group (rule_label K.group b.rule b.density) padding b.rule.q (b.rule.n + b.density.k - 1) (λ v. slice_index_or strip (code b.rule.q v) K.group.zero)
   CrossingsTrue (Ok (breaks f)) strip = Unit {0}
   CrossingsTrue (Err f) strip = Unit {0}
 

@@ -8,10 +8,10 @@ use Rattle.fault.specs.Answers.{and_then}
 use Rattle.fault.specs.Limits.{most_words}
 use Rattle.fault.specs.Refusals.{Refusal}
 use Rattle.charge.specs.Groups.{Kind}
-use Rattle.automaton.specs.Meanings.{Weights}
 use Rattle.automaton.specs.Tables.{length-table}
 use Rattle.automaton.specs.Words.{word}
 use Rattle.criterion.specs.Answers.{unless_refused}
+use Rattle.criterion.specs.Labelled.{LabelList}
 use Rattle.criterion.specs.Search.{padding, crossings, J}
 use Rattle.preset.specs.Sizes.{Sized}
 use Rattle.preset.specs.declared.header.Header.{Header}
@@ -29,17 +29,17 @@ unfolding refuses
 answers K None = refl
 answers K (Some b) = refl
 
-module _ {C : Type 0} (K : Kind C) (label : Weights K.group.Carrier) (first second : List ℕ → K.group.Carrier) where
+module _ {C : Type 0} (K : Kind C) (label : LabelList K.group.Carrier) (first second : List ℕ → K.group.Carrier) where
   pub count-is : (found : Result (Option (ℕ × List ℕ)) Refusal) (o : Option (Break C)) → found_said K (Ok o) ≡ and_then found (λ f. Ok (option_map (broken first second) f))
-      → length (unless_refused found (crossings K padding label)) ≡ label.q ^ (label.k - 1)
+      → length (unless_refused found (crossings K padding label)) ≡ label.q ^ (label.m - 1)
   unfolding refuses
-  count-is (Ok f) o e = length-table (label.q ^ (label.k - 1)) (λ v. J K padding label (word label.q (label.k - 1) v))
+  count-is (Ok f) o e = length-table (label.q ^ (label.m - 1)) (λ v. J K padding label (word label.q (label.m - 1) v))
   count-is (Err f) o e = let z : ◌≡◌ {A = ℕ} 0 1 = sym (answers K o) ∙ ap refuses e in absurd (omega arith)
 
   -- as many as there are words, unless the call is refused
   pub counted : (found : Result (Option (ℕ × List ℕ)) Refusal) (answer : Result (Option (Break C)) Fault) (count : ℕ)
       → found_said K answer ≡ and_then found (λ f. Ok (option_map (broken first second) f))
-      → MatchResult answer (λ _. count ≡ label.q ^ (label.k - 1)) (λ _. count ≡ 0)
+      → MatchResult answer (λ _. count ≡ label.q ^ (label.m - 1)) (λ _. count ≡ 0)
       → count ≡ length (unless_refused found (crossings K padding label))
   unfolding refuses
   counted found (Ok o) count said is = is ∙ sym (count-is found o said)

@@ -10,6 +10,7 @@ use Rattle.automaton.specs.Meanings.{Local, Weights}
 use Rattle.criterion.specs.Answers.{ring_written, unless_refused}
 use Rattle.criterion.specs.Search.{padding, crossings}
 use Rattle.criterion.specs.ChargeStrips.{FrontMeans}
+use Rattle.criterion.specs.Labelled.{LabelList}
 use Rattle.preset.specs.declared.entry.Entry.{Entry}
 use Rattle.preset.specs.declared.header.Header.{Header}
 use Rattle.preset.specs.Sending.{Sending}
@@ -26,7 +27,7 @@ pub record FoundIs {C : Type 0} (K : Kind C) (first second : List ℕ → K.grou
   pub right : Right found
 
 -- What was found for a label on two strips: the answer, the crossings and the ring.
-pub record Finds {C : Type 0} (K : Kind C) (label : Weights K.group.Carrier) (first second : List ℕ → K.group.Carrier) (Right : Result (Option (ℕ × List ℕ)) Refusal → Type 0)
+pub record Finds {C : Type 0} (K : Kind C) (label : LabelList K.group.Carrier) (first second : List ℕ → K.group.Carrier) (Right : Result (Option (ℕ × List ℕ)) Refusal → Type 0)
     (found : Result (Option (ℕ × List ℕ)) Refusal) (old new : List C) (strip ring : List ℕ) (answer : Result (Option (Break C)) Fault) : Type 0 where
   pub is : FoundIs K first second Right found answer
   pub crossed : FrontMeans K (unless_refused found (crossings K padding label)) old new

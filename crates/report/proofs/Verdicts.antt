@@ -6,7 +6,7 @@ use Rattle.fault.specs.declared.Fault.{Fault}
 use Rattle.fault.specs.Answers.{and_then, at_front}
 use Rattle.fault.specs.Refusals.{Refusal}
 use Rattle.charge.specs.Groups.{Kind}
-use Rattle.automaton.specs.Meanings.{Weights}
+use Rattle.criterion.specs.Labelled.{LabelList}
 use Rattle.criterion.specs.Answers.{ring_written}
 use Rattle.preset.specs.Sending.{Sending}
 use Rattle.preset.specs.declared.entry.Entry.{Entry}
@@ -58,7 +58,7 @@ module _ {C : Type 0} (K : Kind C) (S : Sending C) (first second : List ℕ → 
       let all : take b.len (ring_written found) ≡ ring_written found = take_all b.len (ring_written found) (omega arith) in
       ap (λ (xs : List ℕ). finding_text question subject notation xs (sent_break S b)) (cut ∙ sym all)
 
-  module _ (label : Weights K.group.Carrier) (Right : Result (Option (ℕ × List ℕ)) Refusal → Type 0) (old new : List C) (strip ring : List ℕ) (answer : Result (Option (Break C)) Fault)
+  module _ (label : LabelList K.group.Carrier) (Right : Result (Option (ℕ × List ℕ)) Refusal → Type 0) (old new : List C) (strip ring : List ℕ) (answer : Result (Option (Break C)) Fault)
       (finds : Finds K label first second Right found old new strip ring answer) (sent : Result (Option (Break Entry)) Fault) (is : sent ≡ sent_found S answer) where
     pub finds_fit : ring_fits sent ring
     finds_fit = subst (λ (r : Result (Option (Break Entry)) Fault). ring_fits r ring) (sym is) (fits_on answer strip ring finds.is.said finds.shown)

@@ -12,16 +12,16 @@ pub returns-then-left-eq0 : goal.returns-then-left-eq0
 returns-then-left-eq0 g c =
     let K = g.C.Charge.kind in
     let d = g.L.Label.labels K c.args.label.now in
-    let some = power-some d.q (some-letters d (g.L.Label.lawful K c.args.label.now)) (d.k - 1) in
-    let none : c.args.code / d.q ^ (d.k - 1) < 1 = omega (arith, c.fronts_sum-sum.ensures.left, c.if-left-eq0.true) in
-    let within : c.args.code < d.q ^ (d.k - 1) = omega (arith, (div-lt_iff_lt-mul some).0 none) in
-    c.opposite.ensures ∙ c.fronts_sum-sum.ensures.sum within
-    ∙ sym (get_or-table (d.q ^ (d.k - 1)) (λ v. J K 0 d (word d.q (d.k - 1) v)) K.group.zero c.args.code within)
+    let some = power-some d.q (some-letters d (g.L.Label.lawful K c.args.label.now)) (d.m - 1) in
+    let none : c.args.code / d.q ^ (d.m - 1) < 1 = omega (arith, c.prefixes_sum-sum.ensures.left, c.if-left-eq0.true) in
+    let within : c.args.code < d.q ^ (d.m - 1) = omega (arith, (div-lt_iff_lt-mul some).0 none) in
+    c.opposite.ensures ∙ c.prefixes_sum-sum.ensures.sum within
+    ∙ sym (get_or-table (d.q ^ (d.m - 1)) (λ v. J K 0 d (word d.q (d.m - 1) v)) K.group.zero c.args.code within)
 
 pub returns-else-left-eq0 : goal.returns-else-left-eq0
 returns-else-left-eq0 g c =
     let K = g.C.Charge.kind in
     let d = g.L.Label.labels K c.args.label.now in
-    let past : d.q ^ (d.k - 1) ≤ c.args.code =
-    ⊎_elim (λ l. absurd (c.if-left-eq0.false (c.fronts_sum-sum.ensures.left ∙ div-eq_of_lt l))) (λ l. l) (cases_lt c.args.code (d.q ^ (d.k - 1))) in
-    c.zero.ensures ∙ sym (table-past (d.q ^ (d.k - 1)) (λ v. J K 0 d (word d.q (d.k - 1) v)) K.group.zero c.args.code past)
+    let past : d.q ^ (d.m - 1) ≤ c.args.code =
+    ⊎_elim (λ l. absurd (c.if-left-eq0.false (c.prefixes_sum-sum.ensures.left ∙ div-eq_of_lt l))) (λ l. l) (cases_lt c.args.code (d.q ^ (d.m - 1))) in
+    c.zero.ensures ∙ sym (table-past (d.q ^ (d.m - 1)) (λ v. J K 0 d (word d.q (d.m - 1) v)) K.group.zero c.args.code past)

@@ -1,6 +1,6 @@
-use Rattle.std.proofs.Common.{length, arith}
+use Rattle.std.proofs.Common.{arith}
 use Rattle.criterion.proofs.Sizes.{heads-few}
-use Rattle.criterion.proofs.Fronts.{filled-count}
+use Rattle.criterion.proofs.Prefixes.{filled-count}
 use Rattle.criterion.proofs.Failing.{search_more, search-stop, search_end}
 use Rattle.criterion.proofs.search.first_failing.Goals as goal
 
@@ -14,20 +14,14 @@ code_of-code-requires g c =
 pub loop-last-preserved : goal.loop-last-preserved
 loop-last-preserved g c =
     let K = g.C.Charge.kind in
-    let label = c.args.label.now in
-    search_more K (g.L.Label.labels K label) (g.L.Label.lawful K label)
-    (length c.args.crossings.now) c.q-q.result c.loop-head.head c.loop-last.last c.code_of-code.result c.fails.result
-    (filled-count K (g.L.Label.labels K label) c.args.crossings.now c.requires) c.q-q.ensures c.code_of-code.ensures.is c.code_of-code.ensures.below c.loop-last.invariant c.fails.ensures
-    c.if-fails.false
+    search_more K _ (g.L.Label.lawful K c.args.label.now) _ _ _ _ _ _ (filled-count K _ c.args.crossings.now c.requires) c.q-q.ensures
+    c.code_of-code.ensures.is c.code_of-code.ensures.below c.loop-last.invariant c.fails.ensures c.if-fails.false
 
 pub returns-then-fails : goal.returns-then-fails
 returns-then-fails g c =
     let K = g.C.Charge.kind in
-    let label = c.args.label.now in
-    search-stop K (g.L.Label.labels K label) (g.L.Label.lawful K label)
-    (length c.args.crossings.now) c.q-q.result c.loop-head.head c.loop-last.last c.code_of-code.result c.fails.result
-    (filled-count K (g.L.Label.labels K label) c.args.crossings.now c.requires) c.q-q.ensures c.code_of-code.ensures.is c.code_of-code.ensures.below c.loop-last.invariant c.fails.ensures
-    c.if-fails.true
+    search-stop K _ (g.L.Label.lawful K c.args.label.now) _ _ _ _ _ _ (filled-count K _ c.args.crossings.now c.requires) c.q-q.ensures
+    c.code_of-code.ensures.is c.code_of-code.ensures.below c.loop-last.invariant c.fails.ensures c.if-fails.true
 
 pub returns-after-loop-head : goal.returns-after-loop-head
 returns-after-loop-head g c =

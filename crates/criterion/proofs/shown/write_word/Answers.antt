@@ -1,6 +1,6 @@
 use Rattle.std.proofs.Common.{◌≡◌, ◌-◌, ◌+◌, ◌++◌, length, drop, sym, ap, ◌∙◌, arith}
 use Rattle.automaton.specs.Words.{word}
-use Rattle.criterion.proofs.Fronts.{write_none, write_more}
+use Rattle.criterion.proofs.Prefixes.{write_none, write_more}
 use Rattle.criterion.proofs.shown.write_word.Goals as goal
 
 pub loop-i-init : goal.loop-i-init

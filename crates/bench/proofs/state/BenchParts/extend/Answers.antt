@@ -1,5 +1,5 @@
 use Rattle.std.proofs.Common.{ℕ, ◌+◌, ◌*◌, ◌∙◌, arith, length-set}
-use Rattle.bench.specs.Sized.{next_word}
+use Rattle.bench.specs.KeptSizes.{next_word}
 use Rattle.bench.proofs.Nexts.{next-small, extended-within, extended, known-more}
 use Rattle.bench.proofs.state.BenchParts.extend.Goals as goal
 

@@ -1,5 +1,5 @@
 use Rattle.std.proofs.Common.{◌≡◌, ◌+◌, max, length}
-use Rattle.bench.specs.Sized.{KnowsNext}
+use Rattle.bench.specs.KeptSizes.{KnowsNext}
 use Rattle.bench.proofs.state.BenchParts.extend.Given as goal
 
 abbrev pub invariant-loop-last : goal.invariant-loop-last

@@ -1,6 +1,6 @@
 use Rattle.std.proofs.Common.{◌≤◌, ◌*◌, arith, mul-le-mul_left, mul-le-mul_right}
 use Rattle.fault.proofs.Powers.{power_bound}
-use Rattle.bench.specs.Sized.{sized_rule}
+use Rattle.bench.specs.KeptSizes.{sized_rule}
 use Rattle.bench.proofs.Nexts.{tail_none, tail_more, tail_all}
 use Rattle.bench.proofs.state.BenchParts.next_code.Goals as goal
 
@@ -34,10 +34,10 @@ pub loop-preserved : goal.loop-preserved
 loop-preserved g c =
     let s = c.args.sizes in
     tail_more (sized_rule s (g.R.Rule.meaning c.args.self.now.rule)) (omega (arith, s.words.sizes.0)) (omega (arith, s.reach)) s.k s.some
-    c.args.code c.loop.counter c.loop.front c.loop.place c.loop.next c.last_letter.result s.words.sizes.0 c.loop-test.true c.last_letter.type_inv c.last_letter.ensures c.loop.invariant
+    c.args.code c.loop.counter c.loop.prefix c.loop.place c.loop.next c.last_letter.result s.words.sizes.0 c.loop-test.true c.last_letter.type_inv c.last_letter.ensures c.loop.invariant
 
 pub returns : goal.returns
 returns g c =
     let s = c.args.sizes in
     tail_all (sized_rule s (g.R.Rule.meaning c.args.self.now.rule)) (omega (arith, s.words.sizes.0)) (omega (arith, s.reach)) s.k s.some
-    c.args.code c.loop.counter c.loop.front c.loop.place c.loop.next (omega arith) c.loop.invariant
+    c.args.code c.loop.counter c.loop.prefix c.loop.place c.loop.next (omega arith) c.loop.invariant

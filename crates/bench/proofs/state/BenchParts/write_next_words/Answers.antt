@@ -1,7 +1,7 @@
 use Rattle.std.proofs.Common.{◌≡◌, ◌+◌, ◌*◌, ◌/◌, ◌<◌, ◌≤◌, length, set, sym, ap, ◌∙◌, arith, length-set, mul-pos, mul-le-mul_right}
 use Rattle.std.proofs.lemmas.Grind.{get_or-set_at}
 use Rattle.automaton.proofs.Codes.{power-some}
-use Rattle.bench.specs.Sized.{next_word}
+use Rattle.bench.specs.KeptSizes.{next_word}
 use Rattle.bench.proofs.Nexts.{next-small, heads_count}
 use Rattle.bench.proofs.state.BenchParts.write_next_words.Goals as goal
 

@@ -1,5 +1,5 @@
 use Rattle.std.proofs.Common.{◌≡◌, ◌*◌, max, length}
-use Rattle.bench.specs.Sized.{KnowsNext}
+use Rattle.bench.specs.KeptSizes.{KnowsNext}
 use Rattle.bench.proofs.state.BenchParts.write_next_words.Given as goal
 
 abbrev pub invariant-loop-head : goal.invariant-loop-head

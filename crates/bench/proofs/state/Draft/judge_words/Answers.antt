@@ -9,5 +9,4 @@ returns g c =
     let e = draft.sized in
     let b = draft_bench draft in
     let same = rule_list-same K draft.sizes b.rule b.density e.0 e.1 e.2 e.3 e.4 in
-    let l = left_passed K _ _ _ _ _ _ (sizes-pass draft.sizes b e) same c.examine.ensures.answer c.examine.ensures.crossings c.examine.ensures.ring in
-    record { answer = l.answer; left = l.left }
+    left_passed K _ _ _ _ _ _ (sizes-pass draft.sizes b e) same c.examine.ensures.answer c.examine.ensures.crossings c.examine.ensures.ring

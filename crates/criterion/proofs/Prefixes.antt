@@ -4,16 +4,15 @@ use native.Mathlib.Nat.{pow-zero, div-div-eq-div-mul, div-eq_of_lt}
 use lib.Seq.{take-append-le}
 use Rattle.std.specs.Int.Digits.{number_from_digits_after}
 use Rattle.std.proofs.lemmas.List.{take_more_set, drop-set, drop_all, append_assoc, append-nil, map_push, get_or-map, length-map}
-use Rattle.fault.specs.Answers.{at_front}
 use Rattle.charge.specs.Groups.{Group, Kind, minus, sum_over}
 use Rattle.charge.proofs.Sums.{left_comm, interchange, neg_is, sum_more, sum_same, sum_first}
 use Rattle.automaton.specs.Words.{code, word, repeated, table}
-use Rattle.automaton.specs.Meanings.{Weights, weight}
+use Rattle.criterion.specs.Labelled.{LabelList, label_at}
 use Rattle.automaton.proofs.Codes.{length-word, power-some, code-word}
 use Rattle.automaton.proofs.Rings.{length-table, get_or-table, window-append}
 use Rattle.criterion.specs.Search.{J, crossings}
 
--- zeros at the at_front of a word leave its code
+-- zeros in front of a word leave its code
 code_zeros : (q n : ℕ) (w : List ℕ) → code q (repeated 0 n ++ w) ≡ code q w
 code_zeros q zero w = refl
 code_zeros q (suc n) w =
@@ -21,22 +20,22 @@ code_zeros q (suc n) w =
     ap (λ t. number_from_digits_after q t (repeated 0 n ++ w)) none ∙ code_zeros q n w
 
 -- a number without its last digits, none or one more
-pub front_all : (q v : ℕ) → v ≡ v / q ^ 0
-front_all q v = sym (ap (λ p. v / p) (pow-zero q) ∙ div-one v)
+pub prefix_all : (q v : ℕ) → v ≡ v / q ^ 0
+prefix_all q v = sym (ap (λ p. v / p) (pow-zero q) ∙ div-one v)
 
-front_less : (q v j : ℕ) → v / q ^ j / q ≡ v / q ^ (j + 1)
-front_less q v j = div-div-eq-div-mul v (q ^ j) q ∙ ap (λ p. v / p) (sym (pow-suc q j) ∙ ap (λ n. q ^ n) (sym (add-one j)))
+prefix_less : (q v j : ℕ) → v / q ^ j / q ≡ v / q ^ (j + 1)
+prefix_less q v j = div-div-eq-div-mul v (q ^ j) q ∙ ap (λ p. v / p) (sym (pow-suc q j) ∙ ap (λ n. q ^ n) (sym (add-one j)))
 
 -- the first letters of a word have the code of the word without its last letters
-take-front : (q a b c : ℕ) → take a (word q (a + b) c) ≡ word q a (c / q ^ b)
-take-front q a zero c =
+take-prefix : (q a b c : ℕ) → take a (word q (a + b) c) ≡ word q a (c / q ^ b)
+take-prefix q a zero c =
     ap (λ n. take a (word q n c)) (add-zero a)
     ∙ take_all a (word q a c) (omega (arith, length-word q a c))
-    ∙ ap (word q a) (front_all q c)
-take-front q a (suc b) c =
+    ∙ ap (word q a) (prefix_all q c)
+take-prefix q a (suc b) c =
     ap (λ n. take a (word q n c)) (add-suc a b)
     ∙ take-append-le a (word q (a + b) (c / q)) (c % q ∷ []) (omega (arith, length-word q (a + b) (c / q)))
-    ∙ take-front q a b (c / q)
+    ∙ take-prefix q a b (c / q)
     ∙ ap (word q a) (div-div-eq-div-mul c q (q ^ b) ∙ ap (λ p. c / p) (mul_comm q (q ^ b) ∙ sym (pow-suc q b)))
 
 head-code : (q r v j : ℕ) → 0 < q → v < q ^ r → j < r → code q (repeated 0 (r - j) ++ take (suc j) (word q r v)) ≡ v / q ^ (r - suc j)
@@ -44,7 +43,7 @@ head-code q r v j some below h =
     let parts : r ≡ suc j + (r - suc j) = omega arith in
     code_zeros q (r - j) (take (suc j) (word q r v))
     ∙ ap (λ n. code q (take (suc j) (word q n v))) parts
-    ∙ ap (code q) (take-front q (suc j) (r - suc j) v)
+    ∙ ap (code q) (take-prefix q (suc j) (r - suc j) v)
     ∙ code-word q some (suc j) (v / q ^ (r - suc j))
     ((div-lt_iff_lt-mul (power-some q some (r - suc j))).1 (subst (λ n. v < n) (ap (λ n. q ^ n) parts ∙ pow-add q (suc j) (r - suc j)) below))
 
@@ -69,59 +68,59 @@ moved G s t z a e =
     ∙ ap₂ G.add (G.cancel a) (G.cancel t)
     ∙ G.unit G.zero)
 
-module _ {C : Type 0} (K : Kind C) (d : Weights K.group.Carrier) where
+module _ {C : Type 0} (K : Kind C) (d : LabelList K.group.Carrier) where
   -- the label on the word of code v without its last i letters
-  abbrev front_label : ℕ → ℕ → K.group.Carrier
-  front_label v i = get_or d.charges (v / d.q ^ i) K.group.zero
+  abbrev prefix_label : ℕ → ℕ → K.group.Carrier
+  prefix_label v i = get_or d.charges (v / d.q ^ i) K.group.zero
 
-  crossing-code : (v : ℕ) → 0 < d.q → v < d.q ^ (d.k - 1) →
-      J K 0 d (word d.q (d.k - 1) v) ≡ K.group.neg (sum_over K.group (front_label v) (d.k - 1))
+  crossing-code : (v : ℕ) → 0 < d.q → v < d.q ^ (d.m - 1) →
+      J K 0 d (word d.q (d.m - 1) v) ≡ K.group.neg (sum_over K.group (prefix_label v) (d.m - 1))
   crossing-code v some below =
       let G = K.group in
-      let r = d.k - 1 in
+      let r = d.m - 1 in
       ap G.neg
-      (sum_same G (λ j. weight G d (repeated 0 (r - j) ++ take (suc j) (word d.q r v))) (λ j. front_label v (r - suc j)) r
+      (sum_same G (λ j. label_at G d (repeated 0 (r - j) ++ take (suc j) (word d.q r v))) (λ j. prefix_label v (r - suc j)) r
       (λ j h. ap (λ c. get_or d.charges c G.zero) (head-code d.q r v j some below h))
-      ∙ sym (sum_back G (front_label v) r))
+      ∙ sym (sum_back G (prefix_label v) r))
 
-  -- the crossing of a word from that of its at_front: J(v) = J(v / q) - d(v) + d(0)
-  pub crossing-front : (v : ℕ) (x z a : K.group.Carrier) → 0 < d.q → v < d.q ^ (d.k - 1) →
-      x ≡ J K 0 d (word d.q (d.k - 1) (v / d.q)) → z ≡ get_or d.charges 0 K.group.zero → a ≡ get_or d.charges v K.group.zero →
-      K.group.add x (minus K.group z a) ≡ J K 0 d (word d.q (d.k - 1) v)
-  crossing-front v x z a some below ex ez ea =
+  -- the crossing of a word from that of its prefix: J(v) = J(v / q) - d(v) + d(0)
+  pub crossing-prefix : (v : ℕ) (x z a : K.group.Carrier) → 0 < d.q → v < d.q ^ (d.m - 1) →
+      x ≡ J K 0 d (word d.q (d.m - 1) (v / d.q)) → z ≡ get_or d.charges 0 K.group.zero → a ≡ get_or d.charges v K.group.zero →
+      K.group.add x (minus K.group z a) ≡ J K 0 d (word d.q (d.m - 1) v)
+  crossing-prefix v x z a some below ex ez ea =
       let G = K.group in
-      let r = d.k - 1 in
-      let f : ℕ → G.Carrier = front_label v in
-      let fewer : sum_over G (λ i. f (suc i)) r ≡ sum_over G (front_label (v / d.q)) r =
-      sum_same G (λ i. f (suc i)) (front_label (v / d.q)) r
+      let r = d.m - 1 in
+      let f : ℕ → G.Carrier = prefix_label v in
+      let fewer : sum_over G (λ i. f (suc i)) r ≡ sum_over G (prefix_label (v / d.q)) r =
+      sum_same G (λ i. f (suc i)) (prefix_label (v / d.q)) r
       (λ i h. ap (λ c. get_or d.charges c G.zero) (ap (λ p. v / p) (pow-suc d.q i ∙ mul_comm (d.q ^ i) d.q) ∙ sym (div-div-eq-div-mul v d.q (d.q ^ i)))) in
       let last : f r ≡ z = ap (λ c. get_or d.charges c G.zero) (div-eq_of_lt below) ∙ sym ez in
-      let first : f 0 ≡ a = ap (λ c. get_or d.charges c G.zero) (sym (front_all d.q v)) ∙ sym ea in
-      let sums : G.add (sum_over G f r) z ≡ G.add a (sum_over G (front_label (v / d.q)) r) =
+      let first : f 0 ≡ a = ap (λ c. get_or d.charges c G.zero) (sym (prefix_all d.q v)) ∙ sym ea in
+      let sums : G.add (sum_over G f r) z ≡ G.add a (sum_over G (prefix_label (v / d.q)) r) =
       ap (G.add (sum_over G f r)) (sym last) ∙ sum_first G f r ∙ ap₂ G.add first fewer in
-      let head : x ≡ G.neg (sum_over G (front_label (v / d.q)) r) = ex ∙ crossing-code (v / d.q) some (omega (arith, below, div-le_self v d.q)) in
+      let head : x ≡ G.neg (sum_over G (prefix_label (v / d.q)) r) = ex ∙ crossing-code (v / d.q) some (omega (arith, below, div-le_self v d.q)) in
       ap (λ t. G.add t (minus G z a)) head
-      ∙ moved G (sum_over G f r) (sum_over G (front_label (v / d.q)) r) z a sums
+      ∙ moved G (sum_over G f r) (sum_over G (prefix_label (v / d.q)) r) z a sums
       ∙ sym (crossing-code v some below)
 
-  -- after j terms the sum is s, and the at_front is what is left of v
+  -- after j terms the sum is s, and the prefix is what is left of v
   abbrev pub Summed : ℕ → ℕ → ℕ → C → Type 0
-  Summed v j at_front s = (at_front ≡ v / d.q ^ j) × (K.means s ≡ sum_over K.group (front_label v) j)
+  Summed v j prefix s = (prefix ≡ v / d.q ^ j) × (K.means s ≡ sum_over K.group (prefix_label v) j)
 
-  pub summed_more : (v j at_front q : ℕ) (s x t : C) → Summed v j at_front s → q ≡ d.q → K.means x ≡ get_or d.charges at_front K.group.zero →
-      K.means t ≡ K.group.add (K.means s) (K.means x) → Summed v (j + 1) (at_front / q) t
-  summed_more v j at_front q s x t (fronts, sums) same-q at is = (
-    ap₂ ◌/◌ fronts same-q ∙ front_less d.q v j,
-    is ∙ sum_more K.group (front_label v) j (K.means s) (K.means x) sums (at ∙ ap (λ c. get_or d.charges c K.group.zero) fronts),
+  pub summed_more : (v j prefix q : ℕ) (s x t : C) → Summed v j prefix s → q ≡ d.q → K.means x ≡ get_or d.charges prefix K.group.zero →
+      K.means t ≡ K.group.add (K.means s) (K.means x) → Summed v (j + 1) (prefix / q) t
+  summed_more v j prefix q s x t (prefixes, sums) same-q at is = (
+    ap₂ ◌/◌ prefixes same-q ∙ prefix_less d.q v j,
+    is ∙ sum_more K.group (prefix_label v) j (K.means s) (K.means x) sums (at ∙ ap (λ c. get_or d.charges c K.group.zero) prefixes),
   )
 
-  pub summed_all : (v j at_front : ℕ) (s : C) → Summed v j at_front s → j ≡ d.k - 1 → 0 < d.q → v < d.q ^ (d.k - 1) →
-      K.group.neg (K.means s) ≡ J K 0 d (word d.q (d.k - 1) v)
-  summed_all v j at_front s (fronts, sums) all some below =
-      ap K.group.neg (sums ∙ ap (sum_over K.group (front_label v)) all) ∙ sym (crossing-code v some below)
+  pub summed_all : (v j prefix : ℕ) (s : C) → Summed v j prefix s → j ≡ d.m - 1 → 0 < d.q → v < d.q ^ (d.m - 1) →
+      K.group.neg (K.means s) ≡ J K 0 d (word d.q (d.m - 1) v)
+  summed_all v j prefix s (prefixes, sums) all some below =
+      ap K.group.neg (sums ∙ ap (sum_over K.group (prefix_label v)) all) ∙ sym (crossing-code v some below)
 
 module _ {C X : Type 0} (means : C → X) (f : ℕ → X) where
-  -- one more charge at the at_front of a strip
+  -- one more charge at the front of a strip
   pub fill_more : (strip : List C) (n : ℕ) (x : C) → n < length strip → means x ≡ f n →
       map means (take n strip) ≡ table n f → map means (take (n + 1) (set strip n x)) ≡ table (n + 1) f
   fill_more strip n x fits is so_far =
@@ -139,14 +138,14 @@ module _ {C X : Type 0} (means : C → X) (f : ℕ → X) where
       ∙ ap (λ t. get_or t i (means x)) filled
       ∙ get_or-table n f (means x) i h
 
-  -- likewise at the at_front of a strip that is filled so far
+  -- likewise at the front of a strip that is filled so far
   pub filled_so-far : (strip : List C) (n i : ℕ) (x : C) → map means (take n strip) ≡ table n f → i < n → x ≡ get_or strip i x → means x ≡ f i
   filled_so-far strip n i x filled h is = filled_at (take n strip) n i x filled h (is ∙ sym (get_or-take n strip i x h))
 
-module _ {C : Type 0} (K : Kind C) (d : Weights K.group.Carrier) (strip : List C) (filled : map K.means strip ≡ crossings K 0 d) where
+module _ {C : Type 0} (K : Kind C) (d : LabelList K.group.Carrier) (strip : List C) (filled : map K.means strip ≡ crossings K 0 d) where
   -- a filled strip has one charge for each word of m - 1 letters
-  pub filled-count : length strip ≡ d.q ^ (d.k - 1)
-  filled-count = sym (length-map strip K.means) ∙ ap length filled ∙ length-table (d.q ^ (d.k - 1)) (λ v. J K 0 d (word d.q (d.k - 1) v))
+  pub filled-count : length strip ≡ d.q ^ (d.m - 1)
+  filled-count = sym (length-map strip K.means) ∙ ap length filled ∙ length-table (d.q ^ (d.m - 1)) (λ v. J K 0 d (word d.q (d.m - 1) v))
 
 -- one more letter of a word, from its last on, in its place
 pub write_more : (q n rest : ℕ) (strip : List ℕ) → n < length strip →
