@@ -5,14 +5,14 @@ ghost use Rattle.player.specs.Answers.{call_meant};
 ghost use Rattle.automaton.specs.Shown.{digits};
 ghost use Rattle.cli.specs.Commands.{command_meant, letters, command_text, verb_of, one_call};
 
-use crate::names::Named;
+use console::Named;
 use player::Call;
 use std::alloc::{AllocError, Global};
 use std::fmt;
 
 // The letters of a ring as text, a digit each.
 #[derive(Clone, Copy, PartialEq, Eq, Debug)]
-pub struct Digits<'a> {
+pub struct RingDigits<'a> {
     pub text: &'a [u8],
 }
 
@@ -31,7 +31,7 @@ pub enum Verb {
 // What a line of a script asks.
 #[derive(Clone, Copy, PartialEq, Eq, Debug)]
 pub enum Command<'a> {
-    Open(Digits<'a>),
+    Open(RingDigits<'a>),
     Step,
     Steps(usize),
     Touch { site: usize, letter: usize },
@@ -41,7 +41,7 @@ pub enum Command<'a> {
     Close,
 }
 
-impl Digits<'_> {
+impl RingDigits<'_> {
     // The letters.
     pub fn to_letters(self, alloc: Global) -> Result<Vec<u8>, AllocError>
         ensures { IfOk result (λ v. vec_items v ≡ letters self.entry.text.now) }
@@ -54,7 +54,7 @@ impl Digits<'_> {
     }
 }
 
-impl fmt::Display for Digits<'_> {
+impl fmt::Display for RingDigits<'_> {
     ghost output = { λ d. Some (digits (letters d.text.now)) };
 
     fn fmt<W: fmt::Write>(&self, f: &mut fmt::Formatter<W>) -> fmt::Result {
@@ -107,7 +107,7 @@ impl fmt::Display for Command<'_> {
     fn fmt<W: fmt::Write>(&self, f: &mut fmt::Formatter<W>) -> fmt::Result {
         let name = self.verb().name();
         match self {
-            Command::Open(Digits { text: [] }) => f.write_str(name),
+            Command::Open(RingDigits { text: [] }) => f.write_str(name),
             Command::Open(ring) => write!(f, "{name} {ring}"),
             Command::Step | Command::Meters | Command::Close => f.write_str(name),
             Command::Steps(count) => write!(f, "{name} {count}"),

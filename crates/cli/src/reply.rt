@@ -3,7 +3,7 @@ ghost use Rattle.std.specs.Prelude.{◌≡◌, Some};
 ghost use Rattle.cli.specs.Commands.{command_meant};
 ghost use Rattle.console.specs.Pages.{spaced};
 ghost use Rattle.report.specs.Texts.{rows_text};
-ghost use Rattle.cli.specs.Replies.{reply_to, reading_text, meters_row, arc_text, reply_text, ArcRight, MetersRight, ring_row, charge_text};
+ghost use Rattle.cli.specs.Replies.{reply_to, reading_text, meters_row, arc_text, reply_text, ArcRight, MetersRight, ring_row, charge_word, reading_words, charge_text};
 
 use crate::command::{Command, Verb};
 use automaton::ShownLetters;
@@ -76,8 +76,8 @@ impl<'a, C: Charge> Reply<'a, C> {
 }
 
 // A charge as a word.
-fn word<C: Sent>(charge: C) -> EntryWord
-    ensures { result ≡ record { kind = C.sending.named; entry = C.sending.entry charge } }
+fn charge_word<C: Sent>(charge: C) -> EntryWord
+    ensures { result ≡ charge_word C.sending charge }
 {
     EntryWord {
         kind: C::kind(),
@@ -86,6 +86,18 @@ fn word<C: Sent>(charge: C) -> EntryWord
 }
 
 // The meters of a site as words.
+fn reading_words<C: Sent>(reading: Reading<C>) -> Reading<EntryWord>
+    ensures { result ≡ reading_words C.sending reading }
+{
+    Reading {
+        opening: charge_word(reading.opening),
+        crossed: charge_word(reading.crossed),
+        touched: charge_word(reading.touched),
+        now: charge_word(reading.now),
+    }
+}
+
+// The meters of a site as text.
 #[derive(Drop)]
 struct ReadingText<C> {
     reading: Reading<C>,
@@ -95,10 +107,12 @@ impl<C: Sent> fmt::Display for ReadingText<C> {
     ghost output = { λ r. Some (reading_text C.sending r.reading) };
 
     fn fmt<W: fmt::Write>(&self, f: &mut fmt::Formatter<W>) -> fmt::Result {
-        let opening = word(self.reading.opening);
-        let crossed = word(self.reading.crossed);
-        let touched = word(self.reading.touched);
-        let now = word(self.reading.now);
+        let Reading {
+            opening,
+            crossed,
+            touched,
+            now,
+        } = reading_words(self.reading);
         write!(
             f,
             "opening {opening}, crossed {crossed}, touched {touched}, now {now}"
@@ -118,10 +132,12 @@ impl<C: Sent> fmt::Display for MetersRow<C> {
 
     fn fmt<W: fmt::Write>(&self, f: &mut fmt::Formatter<W>) -> fmt::Result {
         let site = self.site;
-        let opening = word(self.reading.opening);
-        let crossed = word(self.reading.crossed);
-        let touched = word(self.reading.touched);
-        let now = word(self.reading.now);
+        let Reading {
+            opening,
+            crossed,
+            touched,
+            now,
+        } = reading_words(self.reading);
         writeln!(f, "{site}\t{opening}\t{crossed}\t{touched}\t{now}")
     }
 }
@@ -147,7 +163,7 @@ impl<C: Sent> fmt::Display for MetersRows<'_, C> {
     }
 }
 
-// The meters of an arc as words.
+// The meters of an arc as text.
 #[derive(Drop)]
 struct ArcText<C> {
     meters: ArcReading<C>,
@@ -157,11 +173,11 @@ impl<C: Sent> fmt::Display for ArcText<C> {
     ghost output = { λ a. Some (arc_text C.sending a.meters) };
 
     fn fmt<W: fmt::Write>(&self, f: &mut fmt::Formatter<W>) -> fmt::Result {
-        let opening = word(self.meters.opening);
-        let into = word(self.meters.into);
-        let out = word(self.meters.out);
-        let touched = word(self.meters.touched);
-        let now = word(self.meters.now);
+        let opening = charge_word(self.meters.opening);
+        let into = charge_word(self.meters.into);
+        let out = charge_word(self.meters.out);
+        let touched = charge_word(self.meters.touched);
+        let now = charge_word(self.meters.now);
         write!(
             f,
             "opening {opening}, in {into}, out {out}, touched {touched}, now {now}"
@@ -243,8 +259,8 @@ impl<C: Sent> fmt::Display for Crossed<'_, C> {
 
     fn fmt<W: fmt::Write>(&self, f: &mut fmt::Formatter<W>) -> fmt::Result {
         for charge in self.charges {
-            let word = word(*charge);
-            write!(f, " {word}")?;
+            let charge = charge_word(*charge);
+            write!(f, " {charge}")?;
         }
         Ok(())
     }

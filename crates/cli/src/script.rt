@@ -1,7 +1,9 @@
 // A script as commands.
 ghost use Rattle.std.specs.Prelude.{◌≡◌, Some, Err, IfErr, map, vec_items};
+ghost use Rattle.console.specs.Results.{value_as, UnlessMemory};
 ghost use Rattle.cli.specs.Commands.{command_meant, some_command_meant, line_command};
-ghost use Rattle.cli.specs.Scripts.{numbered_of, at_line, script, scripted, Told, wanted_text, script_sentence};
+ghost use Rattle.cli.specs.Scripts.{numbered_of, at_line, script, wanted_text, script_sentence};
+ghost use Rattle.cli.specs.declared.script.ScriptError.TheVariants.{Memory};
 
 use crate::command::Command;
 use crate::line::{MOST_STEPS, Wanted, read_line};
@@ -19,7 +21,7 @@ pub enum ScriptError {
 
 // The command that a numbered line is, unless it has no words.
 fn command_at(line: NumberedLine<'_>) -> Result<Option<Command<'_>>, ScriptError>
-    ensures { scripted some_command_meant result
+    ensures { value_as some_command_meant result
         ≡ at_line (numbered_of line.entry) (line_command line.entry.text.now) }
 {
     match read_line(line.text) {
@@ -33,9 +35,10 @@ fn command_at(line: NumberedLine<'_>) -> Result<Option<Command<'_>>, ScriptError
 
 // The commands of a script, or its first line that is none. A line that is wrong is told even where there is no memory.
 pub fn read_script(alloc: Global, text: &[u8]) -> Result<Vec<Command<'_>>, ScriptError>
-    ensures commands { Told (scripted (λ v. map command_meant (vec_items v)) result) (script text.now) }
+    ensures commands { UnlessMemory Memory
+        (value_as (λ v. map command_meant (vec_items v)) result) (script text.now) }
     ensures wrong { IfErr (script text.now)
-        (λ e. scripted (λ v. map command_meant (vec_items v)) result ≡ Err e) }
+        (λ e. value_as (λ v. map command_meant (vec_items v)) result ≡ Err e) }
 {
     let mut commands = Vec::new(alloc);
     let mut full = false;

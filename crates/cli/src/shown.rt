@@ -1,4 +1,4 @@
-// LineWords of the arguments as they are shown.
+// Words of the arguments as they are shown.
 ghost use Rattle.std.specs.Prelude.{◌≡◌, ◌<◌, if◌then◌else◌, Some, None};
 ghost use Rattle.cli.specs.Commands.{lent_word};
 ghost use Rattle.cli.specs.ShownArguments.{is_utf8, no_controls, hex_digit, byte_text, bytes_text, shown_argument};

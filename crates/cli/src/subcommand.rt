@@ -2,7 +2,7 @@
 ghost use Rattle.std.specs.Prelude.{◌≡◌};
 ghost use Rattle.cli.specs.Requests.{subcommand_text, named_subcommand};
 
-use crate::names::{Named, find_named};
+use console::{Named, find_named};
 
 // What sort of request the arguments are.
 #[derive(Clone, Copy, PartialEq, Eq, Debug)]

@@ -2,7 +2,7 @@
 ghost use Rattle.std.specs.Prelude.{Some};
 
 use crate::line::MOST_STEPS;
-use crate::names::Named;
+use console::Named;
 use crate::shown::ShownArgument;
 use std::error::Error;
 use std::fmt;

@@ -39,12 +39,12 @@ impl Class {
 // A front of a text, and what comes after it.
 #[derive(Clone, Copy)]
 pub struct Split<'a> {
-    pub front: &'a [u8],
-    pub rest: &'a [u8],
+    pub leading: &'a [u8],
+    pub past: &'a [u8],
 }
 
 // How many bytes at the front are of the class.
-fn front_len(class: Class, text: &[u8]) -> usize
+fn leading_len(class: Class, text: &[u8]) -> usize
     ensures { result ≡ prefix_len (belongs class) text.now }
 {
     text.iter().take_while(|byte| class.has(**byte)).count()
@@ -52,11 +52,11 @@ fn front_len(class: Class, text: &[u8]) -> usize
 
 // Cuts a text after the longest front whose bytes are all of the class.
 pub fn cut(class: Class, text: &[u8]) -> Split<'_>
-    ensures front { result.front.now ≡ leading class text.now }
-    ensures rest { result.rest.now ≡ past class text.now }
+    ensures leading { result.leading.now ≡ leading class text.now }
+    ensures past { result.past.now ≡ past class text.now }
 {
-    let (front, rest) = text.split_at(front_len(class, text));
-    Split { front, rest }
+    let (leading, past) = text.split_at(leading_len(class, text));
+    Split { leading, past }
 }
 
 // Whether a word is a text.
@@ -69,10 +69,10 @@ pub fn is_text(word: &[u8], text: &str) -> bool
 // Cuts a line after its first word, if it has one.
 fn first_word(line: &[u8]) -> Option<Split<'_>>
     ensures words { words_of line.now ≡ rejoined result }
-    ensures rest { IfSome result (λ s. length s.rest.now < length line.now) }
+    ensures shorter { IfSome result (λ s. length s.past.now < length line.now) }
 {
-    let word = cut(Class::NotBlank, cut(Class::Blank, line).rest);
-    if word.front.is_empty() {
+    let word = cut(Class::NotBlank, cut(Class::Blank, line).past);
+    if word.leading.is_empty() {
         None
     } else {
         Some(word)
@@ -94,7 +94,7 @@ impl<'a> Iterator for LineWords<'a> {
 
     fn next(&mut self) -> Option<&'a [u8]> {
         let word = first_word(self.line)?;
-        self.line = word.rest;
-        Some(word.front)
+        self.line = word.past;
+        Some(word.leading)
     }
 }

@@ -1,17 +1,18 @@
 // A page turned into a preset's bytes.
 ghost use Rattle.std.specs.Prelude.{◌≡◌, ◌≢◌, ◌≤◌, Some, None, Err, IfSome, IfErr, MatchBool, MatchResult, OnSome, filter_map, length, vec_items};
 ghost use Rattle.preset.specs.Writes.{writing};
-ghost use Rattle.console.specs.Encodes.{most_preset, answered, Answered, from_writer, miscounted, bytes_of, encoded, encode_sentence};
+ghost use Rattle.console.specs.Encodes.{most_preset, answered, no_memory, from_writer, miscounted, bytes_of, encoded, encode_sentence};
+ghost use Rattle.console.specs.Results.{UnlessMemory};
 ghost use Rattle.console.specs.Grammar.{outlined};
 ghost use Rattle.console.specs.Cutting.{words_left};
 ghost use Rattle.console.specs.declared.encode.EncodeError.TheVariants.{Text};
 ghost use Rattle.console.specs.declared.error.TextError.TheVariants.{Memory};
 
+use crate::cutting::LineWords;
 use crate::error::TextError;
 use crate::item::PageItem;
-use crate::part_lines::{PartLines, line_of_refusal};
 use crate::outline::{Outline, read_outline};
-use crate::cutting::LineWords;
+use crate::part_lines::{PartLines, line_of_refusal};
 use charge::ChargeKind;
 use fault::Fault;
 use preset::{Entry, Header, STRIP, write_preset};
@@ -134,7 +135,7 @@ fn encode_outline<'o>(page: Outline<'_>, out: &'o mut [u8]) -> Result<&'o [u8], 
 // The bytes of the preset that a text writes. They are written to the stack first, so that no more is taken from the
 // heap than they take, and nothing where there is no preset.
 pub fn encode_page(alloc: Global, text: &[u8]) -> Result<Vec<u8>, EncodeError>
-    ensures bytes { Answered (answered vec_items result) (encoded text.now) }
+    ensures bytes { UnlessMemory no_memory (answered vec_items result) (encoded text.now) }
     // No memory is needed to tell why a text gives no preset.
     ensures wrong { IfErr (encoded text.now) (λ e. answered vec_items result ≡ Err e) }
 {

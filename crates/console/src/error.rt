@@ -3,6 +3,7 @@ ghost use Rattle.console.specs.Errors.{expected_text, text_sentence};
 ghost use Rattle.std.specs.Prelude.{◌≡◌, Some};
 ghost use Rattle.console.specs.declared.error.TextError.TheVariants.{Memory};
 
+use crate::names::Named;
 use crate::page_part::PagePart;
 use std::alloc::{AllocError, AllocFailed};
 use std::error::Error;
@@ -39,7 +40,7 @@ impl fmt::Display for Expected {
     }
 }
 
-// There is no memory, the text ends where a part is due, or a line is wrong. PartLines are counted from 1.
+// There is no memory, the text ends where a part is due, or a line is wrong. Lines are counted from 1.
 #[derive(Clone, Copy, PartialEq, Eq, Debug)]
 pub enum TextError {
     Memory,

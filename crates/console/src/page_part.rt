@@ -1,6 +1,7 @@
 // The parts of a page.
-ghost use Rattle.std.specs.Prelude.{◌≡◌};
 ghost use Rattle.console.specs.Names.{part_text};
+
+use crate::names::Named;
 
 // Each part stands on a line of its own, in this order.
 #[derive(Clone, Copy, PartialEq, Eq, Debug)]
@@ -15,11 +16,10 @@ pub enum PagePart {
     Bytes,
 }
 
-impl PagePart {
-    // The word that the part's line begins with. No `Display`, as for a kind.
-    pub fn name(self) -> &'static str
-        ensures { result.now ≡ part_text self }
-    {
+impl Named for PagePart {
+    ghost text = { part_text };
+
+    fn name(self) -> &'static str {
         match self {
             PagePart::Kind => "kind",
             PagePart::Letters => "letters",
