@@ -15,20 +15,18 @@ fn judged<C: Charge, R: Rule + Drop, D: Density<C> + Drop>(
     Ok(Draft::new(rule, density)?.judge(crossings, ring)?.found())
 }
 
-// The same for a rule over two letters, by its window, its reach and its table, where the letter 0 weighs nothing and 1
-// as much as is given.
-fn judged_ones<C: Charge>(
+// The same for a rule and a density over two letters, by the rule's window and reach and by their tables.
+fn judged_tables<C: Charge>(
     (n, l): (u64, u64),
     letters: &[u8],
-    one: C,
+    entries: &[C],
     crossings: &mut [C],
     ring: &mut [u8],
 ) -> Result<Option<Break<C>>, Fault> {
     let mut rule = TableRule::zero();
     rule.fill(2, n, l, letters)?;
     let mut density = TableDensity::zero();
-    let entries = [C::zero(), one];
-    density.fill(2, 1, &entries)?;
+    density.fill(2, 1, entries)?;
     judged(rule, density, crossings, ring)
 }
 
@@ -37,8 +35,16 @@ const ELEMENTARY: (u64, u64) = (3, 1);
 
 const RULE_184: [u8; 8] = [0, 0, 0, 1, 1, 1, 0, 1];
 
+// A voice for each 1.
+const ONES: [Voices; 2] = [Voices { count: 0 }, Voices { count: 1 }];
+
 // What is found where a word breaks the total.
-fn broken<C: Charge>(word: usize, len: usize, first: C, second: C) -> Result<Option<Break<C>>, Fault> {
+fn broken<C: Charge>(
+    word: usize,
+    len: usize,
+    first: C,
+    second: C,
+) -> Result<Option<Break<C>>, Fault> {
     Ok(Some(Break {
         word,
         len,
@@ -55,7 +61,7 @@ fn voices(count: i64) -> Voices {
 fn rule_184_holds(rt: HostRuntime) {
     let mut crossings = [voices(77); 4];
     let mut ring = [9u8; 5];
-    let found = judged_ones(ELEMENTARY, &RULE_184, voices(1), &mut crossings, &mut ring);
+    let found = judged_tables(ELEMENTARY, &RULE_184, &ONES, &mut crossings, &mut ring);
     assert_eq!(rt; found, Ok(None));
     assert_eq!(rt; crossings, [voices(0), voices(0), voices(1), voices(0)]);
     assert_eq!(rt; ring, [9, 9, 9, 9, 9]);
@@ -65,11 +71,14 @@ fn rule_184_holds(rt: HostRuntime) {
 fn rule_90_breaks(rt: HostRuntime) {
     let mut crossings = [voices(77); 4];
     let mut ring = [9u8; 6];
-    let found = judged_ones(ELEMENTARY, &[0, 1, 0, 1, 1, 0, 1, 0], voices(1), &mut crossings, &mut ring);
-    assert_eq!(rt;
-        found,
-        broken(0b100, 5, voices(1), voices(2))
+    let found = judged_tables(
+        ELEMENTARY,
+        &[0, 1, 0, 1, 1, 0, 1, 0],
+        &ONES,
+        &mut crossings,
+        &mut ring,
     );
+    assert_eq!(rt; found, broken(0b100, 5, voices(1), voices(2)));
     assert_eq!(rt; ring, [1, 0, 0, 0, 0, 9]);
 }
 
@@ -81,7 +90,13 @@ fn channels(bits: u16) -> Channels {
 fn rule_150_holds_in_channels(rt: HostRuntime) {
     let mut crossings = [channels(77); 4];
     let mut ring = [9u8; 5];
-    let found = judged_ones(ELEMENTARY, &[0, 1, 1, 0, 1, 0, 0, 1], channels(1), &mut crossings, &mut ring);
+    let found = judged_tables(
+        ELEMENTARY,
+        &[0, 1, 1, 0, 1, 0, 0, 1],
+        &[channels(0), channels(1)],
+        &mut crossings,
+        &mut ring,
+    );
     assert_eq!(rt; found, Ok(None));
     assert_eq!(rt;
         crossings,
@@ -98,11 +113,14 @@ fn class(number: u8) -> Pitch {
 fn pitch_breaks_on_ring_b(rt: HostRuntime) {
     let mut crossings = [class(7); 2];
     let mut ring = [9u8; 3];
-    let found = judged_ones((2, 0), &[1, 1, 1, 1], class(4), &mut crossings, &mut ring);
-    assert_eq!(rt;
-        found,
-        broken(0, 2, class(0), class(8))
+    let found = judged_tables(
+        (2, 0),
+        &[1, 1, 1, 1],
+        &[class(0), class(4)],
+        &mut crossings,
+        &mut ring,
     );
+    assert_eq!(rt; found, broken(0, 2, class(0), class(8)));
     assert_eq!(rt; ring, [0, 0, 9]);
 }
 
@@ -110,11 +128,8 @@ fn pitch_breaks_on_ring_b(rt: HostRuntime) {
 fn one_letter_breaks(rt: HostRuntime) {
     let mut crossings = [voices(77); 1];
     let mut ring = [9u8; 1];
-    let found = judged_ones((1, 0), &[1, 0], voices(1), &mut crossings, &mut ring);
-    assert_eq!(rt;
-        found,
-        broken(0, 1, voices(0), voices(1))
-    );
+    let found = judged_tables((1, 0), &[1, 0], &ONES, &mut crossings, &mut ring);
+    assert_eq!(rt; found, broken(0, 1, voices(0), voices(1)));
     assert_eq!(rt; ring, [0]);
     assert_eq!(rt; crossings, [voices(0)]);
 }
@@ -200,7 +215,7 @@ fn limits_of_words(rt: HostRuntime) {
 fn short_crossing_strip(rt: HostRuntime) {
     let mut crossings = [voices(77); 3];
     let mut ring = [9u8; 5];
-    let found = judged_ones(ELEMENTARY, &RULE_184, voices(1), &mut crossings, &mut ring);
+    let found = judged_tables(ELEMENTARY, &RULE_184, &ONES, &mut crossings, &mut ring);
     assert_eq!(rt; found.map_err(numbers), Err((12, 0)));
     assert_eq!(rt; crossings, [voices(77), voices(77), voices(77)]);
 }
@@ -209,7 +224,7 @@ fn short_crossing_strip(rt: HostRuntime) {
 fn short_ring_strip(rt: HostRuntime) {
     let mut crossings = [voices(77); 4];
     let mut ring = [9u8; 4];
-    let found = judged_ones(ELEMENTARY, &RULE_184, voices(1), &mut crossings, &mut ring);
+    let found = judged_tables(ELEMENTARY, &RULE_184, &ONES, &mut crossings, &mut ring);
     assert_eq!(rt; found.map_err(numbers), Err((12, 0)));
     assert_eq!(rt; crossings, [voices(77); 4]);
 }

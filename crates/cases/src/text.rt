@@ -97,7 +97,9 @@ fn wrong_lines_are_named(rt: HostRuntime) -> Result<(), Fail> {
     );
     assert_eq!(rt;
         parse(alloc, b"kind pitch\n"),
-        Err(TextError::Ended { due: PagePart::Letters })
+        Err(TextError::Ended {
+            due: PagePart::Letters
+        })
     );
     Ok(())
 }

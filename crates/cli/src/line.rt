@@ -8,20 +8,28 @@ use crate::count::{read_count, read_ring};
 use crate::verb::verb_named;
 use console::{Class, LineWords, cut};
 
-// What a line should have where it has something else, or nothing.
+/// What a line should have where it has something else, or nothing. Its text goes on a sentence: `a site`.
 #[derive(Clone, Copy, PartialEq, Eq, Debug)]
 pub enum Wanted {
+    /// A word that a command begins with.
     Verb,
+    /// The letters of a ring, a digit each.
     Letters,
+    /// A site, which is a number.
     Site,
+    /// A letter, which is a number.
     Letter,
+    /// How many sites an arc has.
     Length,
+    /// A number of steps.
     Steps,
+    /// At most [`MOST_STEPS`] steps.
     FewerSteps,
+    /// Nothing more on the line.
     LineEnd,
 }
 
-// Steps at once are at most as many as this.
+/// Steps at once are at most as many as this.
 pub const MOST_STEPS: usize = 1_000_000;
 
 // A value, unless something follows.
@@ -141,7 +149,13 @@ fn named_command<'a>(
     Ok(Some(of_verb(verb, first, second, third)?))
 }
 
-// The command that a line is, unless it has no words. What follows a # is a comment.
+/// The command that a line is, or `None` where it has no words. What follows a `#` is a comment. A number of 2^63 or more
+/// counts as 2^63, and only steps have a limit of their own. Refuses a line by what its first wrong word should be.
+///
+/// ```text
+/// read_line(b"touch 1 0  # the second cell")    Ok(Some(Command::Touch { site: 1, letter: 0 }))
+/// read_line(b"touch 1")                         Err(Wanted::Letter)
+/// ```
 #[tactic(auto, using(crate::proofs::SaidBack::reads_back))]
 pub fn read_line(line: &[u8]) -> Result<Option<Command<'_>>, Wanted>
     ensures command { value_as some_command_meant result ≡ line_command line.now }

@@ -12,34 +12,54 @@ use crate::subcommand::{Subcommand, subcommand_named};
 use crate::usage::{Operand, UsageError};
 use console::is_text;
 
-// What is asked, with names of files, a ring and steps. The presets that are judged are words as they were given.
+/// What is asked of the program. Names of files are as they were given.
 #[derive(Clone, Copy)]
 pub enum Request<'a> {
+    /// `help`: the page of help.
     Help,
+    /// `show PRESET`: what a preset file holds.
     Show {
+        /// The preset file.
         preset: &'a str,
     },
+    /// `encode TEXT PRESET`: a preset file of a text.
     Encode {
+        /// The file of the text.
         text: &'a str,
+        /// The preset file that is written.
         preset: &'a str,
     },
+    /// `judge PRESET...`: a verdict for each preset.
     Judge {
+        /// At least one word. Which of them name files is asked of each by itself ([`file_name`]).
         presets: &'a [Vec<u8>],
     },
+    /// `crossings PRESET`: what crosses at each word.
     Crossings {
+        /// The preset file.
         preset: &'a str,
     },
+    /// `compare PRESET PRESET`: whether two densities have the same totals.
     Compare {
+        /// The preset file with the one density.
         first: &'a str,
+        /// The preset file with the other.
         second: &'a str,
     },
+    /// `play PRESET`: the script on standard input, played.
     Play {
+        /// The preset file.
         preset: &'a str,
     },
+    /// `run PRESET RING STEPS [--meters]`: a ring, a row for each step.
     Run {
+        /// The preset file.
         preset: &'a str,
+        /// The letters of the ring.
         ring: RingDigits<'a>,
+        /// How many steps, at most [`crate::MOST_STEPS`].
         steps: usize,
+        /// Whether each row has what has crossed, too.
         meters: bool,
     },
 }
@@ -51,7 +71,8 @@ fn is_option(word: &[u8]) -> bool
     matches!(word, [b'-', _, ..])
 }
 
-// The name of a file that a word is. No word of UTF-8 names a file that has another name, and no option names one.
+/// The name of a file that a word is. Refuses an option, which is a word that begins with a minus sign and has more, and
+/// a word that is no UTF-8.
 pub fn file_name(word: &[u8]) -> Result<&str, UsageError<'_>>
     ensures { asking (λ s. s.now) result ≡ file_name word.now }
 {
@@ -250,7 +271,13 @@ fn any_help(words: &[Vec<u8>]) -> bool
     false
 }
 
-// What the words after the program's name ask. The option that asks for help may stand anywhere among them.
+/// What the words after the program's name ask. `--help` and `-h` may stand anywhere among them. Refuses words by the first
+/// that is wrong, or by what is missing.
+///
+/// ```text
+/// encode cars.txt cars.preset    Ok(Request::Encode { text: "cars.txt", preset: "cars.preset" })
+/// encode cars.txt                Err(UsageError::Missing(Operand::Preset))
+/// ```
 pub fn read_arguments(words: &[Vec<u8>]) -> Result<Request<'_>, UsageError<'_>>
     ensures { asking request_meant result ≡ requested (map vec_items words.now) }
 {

@@ -7,16 +7,23 @@ ghost use Rattle.cli.specs.declared.script.ScriptError.TheVariants.{Memory};
 
 use crate::command::Command;
 use crate::line::{MOST_STEPS, Wanted, read_line};
-use crate::text_lines::{TextLines, NumberedLine};
+use crate::text_lines::{NumberedLine, TextLines};
 use std::alloc::Global;
 use std::error::Error;
 use std::fmt;
 
-// There is no memory, or a line is no command: its number, counted from 1, and what it should have.
+/// Why a script is not played. Its text is one sentence.
 #[derive(Clone, Copy, PartialEq, Eq, Debug)]
 pub enum ScriptError {
+    /// There is not enough memory.
     Memory,
-    Line { line: usize, wanted: Wanted },
+    /// A line is no command.
+    Line {
+        /// The line, counted from 1. Lines without words count too.
+        line: usize,
+        /// What it should have.
+        wanted: Wanted,
+    },
 }
 
 // The command that a numbered line is, unless it has no words.
@@ -33,7 +40,8 @@ fn command_at(line: NumberedLine<'_>) -> Result<Option<Command<'_>>, ScriptError
     }
 }
 
-// The commands of a script, or its first line that is none. A line that is wrong is told even where there is no memory.
+/// The commands of a script, one for each line that has words. Refuses a script by its first line that is no command,
+/// even where there is no memory.
 pub fn read_script(alloc: Global, text: &[u8]) -> Result<Vec<Command<'_>>, ScriptError>
     ensures commands { UnlessMemory Memory
         (value_as (λ v. map command_meant (vec_items v)) result) (script text.now) }

@@ -5,13 +5,19 @@ ghost use Rattle.std.specs.List.{prefix_len};
 ghost use Rattle.std.specs.Str.{bytes_eq};
 ghost use Rattle.console.specs.Cutting.{blank, belongs, leading, past, words as words_of, words_left, rejoined};
 
-// Which bytes a front of a text may have. An enum and no closure, since a clause can say which bytes belong to it.
+/// Which bytes the front that [`cut`] cuts off may have. An enum and no closure, since a clause can say which bytes
+/// belong to it.
 #[derive(Clone, Copy)]
 pub enum Class {
+    /// A space, a tab or a carriage return.
     Blank,
+    /// Any other byte, the end of a line among them.
     NotBlank,
+    /// Any byte but the one that ends a line.
     NotNewline,
+    /// Any byte but `:`.
     NotColon,
+    /// Any byte but `#`.
     NotHash,
 }
 
@@ -36,10 +42,12 @@ impl Class {
     }
 }
 
-// A front of a text, and what comes after it.
+/// A front of a text, and what comes after it.
 #[derive(Clone, Copy)]
 pub struct Split<'a> {
+    /// The front, which may be empty.
     pub leading: &'a [u8],
+    /// What comes after it, which may be empty.
     pub past: &'a [u8],
 }
 
@@ -50,7 +58,12 @@ fn leading_len(class: Class, text: &[u8]) -> usize
     text.iter().take_while(|byte| class.has(**byte)).count()
 }
 
-// Cuts a text after the longest front whose bytes are all of the class.
+/// Cuts a text after the longest front whose bytes are all of the class.
+///
+/// ```text
+/// cut(Class::NotColon, b"3:11")    leading: b"3", past: b":11"
+/// cut(Class::NotColon, b"3")       leading: b"3", past: b""
+/// ```
 pub fn cut(class: Class, text: &[u8]) -> Split<'_>
     ensures leading { result.leading.now ≡ leading class text.now }
     ensures past { result.past.now ≡ past class text.now }
@@ -59,7 +72,7 @@ pub fn cut(class: Class, text: &[u8]) -> Split<'_>
     Split { leading, past }
 }
 
-// Whether a word is a text.
+/// Whether a word has the bytes of a text, and no others.
 pub fn is_text(word: &[u8], text: &str) -> bool
     ensures { result ≡ bytes_eq word.now text.now }
 {
@@ -79,9 +92,10 @@ fn first_word(line: &[u8]) -> Option<Split<'_>>
     }
 }
 
-// The words of a line, one after another: the line from the next word on.
+/// The words of a line, one after another: bytes that are not blank, which blanks keep apart ([`Class::Blank`]).
 #[derive(Clone, Copy)]
 pub struct LineWords<'a> {
+    /// What is left of the line.
     pub line: &'a [u8],
 }
 

@@ -25,14 +25,14 @@ impl Named for ChargeKind {
     }
 }
 
-// The name of a kind.
+/// The name of a kind of charge: `voices`, `pitch`, `channels` or `both`.
 pub fn kind_name(kind: ChargeKind) -> &'static str
     ensures { result.now ≡ kind_text kind }
 {
     kind.name()
 }
 
-// The kind that has a name, if any has.
+/// The kind of charge that a word names, if it names one.
 pub fn kind_named(word: &[u8]) -> Option<ChargeKind>
     ensures { result ≡ named_kind word.now }
 {

@@ -32,7 +32,9 @@ fn collect_items<T: PageItem>(
     Ok(items)
 }
 
-// Reads a page. The numbers of the header and the counts of letters and entries are not checked.
+/// Reads a page. The numbers of the header and the counts of letters and entries are not checked.
+///
+/// Refuses a text at the first line that is wrong, or where it ends too soon by the part that is due.
 pub fn parse(alloc: Global, text: &[u8]) -> Result<ParsedPage, TextError>
     ensures draft { UnlessMemory Memory (value_as content result) (parsed text.now) }
     // No memory is needed to tell what is wrong with a text.

@@ -9,7 +9,13 @@ use crate::writer::page;
 use preset::PresetStrips;
 use std::alloc::Global;
 
-// The page of the preset that the bytes are, or its refusal.
+/// The page of the preset that the bytes are, eight lines of text. Refuses bytes that are no preset, with the code and
+/// the place of `preset::read_whole`.
+///
+/// ```text
+/// show_preset(alloc, &[0, 2, 1, 0, 1, 0, 1, 0, 2])
+///     "kind voices\nletters 2\nwindow 1\nreach 0\nwidth 1\nrule 0 1\ndensity 0 1\nbytes 9\n"
+/// ```
 #[tactic(auto, using(crate::proofs::ShownBack::shown_encodes_back))]
 pub fn show_preset(alloc: Global, input: &[u8]) -> Result<String, ShowError>
     ensures page { IfSome (unless_memory result) (λ s. told string_bytes s ≡ page_shown input.now) }
