@@ -1,7 +1,7 @@
 -- A command that is written as text is read back as that command. Assumes nothing.
-use Rattle.std.proofs.Common.{◌≡◌, ℕ, ◌+◌, ◌<◌, ◌≤◌, true, eqb, List, [], ◌∷◌, ◌++◌, map, length, Some, None, Ok, decimal, sym, refl, ap, ◌∙◌, append-nil, arith, false, ⊎_elim}
-use Rattle.std.proofs.lemmas.Fmt.{digits_decimal, digits_value-decimal, decimal_digit, decimal_nonempty}
-use Rattle.std.proofs.lemmas.Bool.{ne_eqb, le-ltb, le-leb, cases_lt}
+use Rattle.std.proofs.Common.{◌≡◌, ℕ, ◌+◌, ◌<◌, ◌≤◌, true, List, [], ◌∷◌, ◌++◌, map, length, Some, None, Ok, decimal, sym, refl, ap, ◌∙◌, append-nil, arith, ⊎_elim}
+use Rattle.std.proofs.lemmas.Fmt.{decimal_digit}
+use Rattle.std.proofs.lemmas.Bool.{le-ltb, le-leb, cases_lt}
 use Rattle.std.proofs.lemmas.Bool.Decides.{nat_tests}
 use Rattle.std.specs.Char.{is_ascii_digit}
 use Rattle.std.specs.List.{AllByRecursion}
@@ -9,8 +9,8 @@ use Rattle.std.specs.Str.{all_ascii_digits}
 use Rattle.automaton.specs.Shown.{digits}
 use Rattle.console.specs.Numbers.{number_end, number}
 use Rattle.console.specs.Pages.{spaced}
-use Rattle.console.specs.Cutting.{belongs, leading, words}
-use Rattle.console.specs.declared.cutting.Class.TheVariants.{NotBlank, NotNewline, NotHash}
+use Rattle.console.specs.Cutting.{leading, words}
+use Rattle.console.specs.declared.cutting.Class.TheVariants.{NotHash}
 use Rattle.console.proofs.Digits.{number-some}
 use Rattle.console.proofs.ReadBack.{Of, Word, HasDigits, Numeral, of-append, leading_all, words-front, digits_of, numeral-word, decimal-numeral, decimal-some, decimal-value, number-decimal, spaced_apart, words-spaced, all_of, part_of, is_word, word_by}
 use Rattle.cli.specs.Commands.{ScriptCommand, count, letters, most_steps, verb_text, verb_of, arguments, command_of, line_command, Sayable, ReadsBack}

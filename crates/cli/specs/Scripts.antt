@@ -1,5 +1,5 @@
 -- What a script asks: its lines, and the commands that they are. Assumes nothing.
-use Rattle.std.specs.Prelude.{◌≡◌, ℕ, ◌+◌, List, [], ◌∷◌, ◌++◌, Some, None, Ok, Err, Option, Result, ◌≢◌, codes, decimal}
+use Rattle.std.specs.Prelude.{ℕ, ◌+◌, List, [], ◌∷◌, ◌++◌, Some, None, Ok, Option, Result, codes, decimal}
 use Rattle.fault.specs.Answers.{and_then}
 use Rattle.console.specs.Results.{error_as}
 use Rattle.cli.specs.Lines.{lines}
