@@ -109,8 +109,8 @@ impl Command<'_> {
     }
 
     /// The player's call that it is, if it is one call: steps at once, an arc and the meters are none. `ring` has the
-    /// letters of the ring that `open` opens, and is not looked at otherwise. A letter above 255 is asked as 255, which no
-    /// alphabet has.
+    /// letters of the ring that `open` opens, and is not looked at otherwise. A letter above 255 is asked as 255, which
+    /// no alphabet has.
     pub fn call<'a>(&self, ring: &'a [u8]) -> Option<Call<'a>>
         ensures { option_map call_meant result ≡ one_call (command_meant self.now) ring.now }
     {

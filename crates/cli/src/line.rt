@@ -97,7 +97,8 @@ fn site_and(
     second: Option<&[u8]>,
     third: Option<&[u8]>,
 ) -> Result<(usize, usize), Wanted>
-    ensures { result ≡ site_and wanted (lent_word first.entry) (lent_word second.entry) (lent_word third.entry) }
+    ensures { result
+        ≡ site_and wanted (lent_word first.entry) (lent_word second.entry) (lent_word third.entry) }
 {
     let site = number_word(Wanted::Site, first)?;
     let count = number_word(wanted, second)?;
@@ -149,8 +150,9 @@ fn named_command<'a>(
     Ok(Some(of_verb(verb, first, second, third)?))
 }
 
-/// The command that a line is, or `None` where it has no words. What follows a `#` is a comment. A number of 2^63 or more
-/// counts as 2^63, and only steps have a limit of their own. Refuses a line by what its first wrong word should be.
+/// The command that a line is, or `None` where it has no words. What follows a `#` is a comment. A number of 2^63 or
+/// more counts as 2^63, and only steps have a limit of their own. Refuses a line by what its first wrong word should
+/// be.
 ///
 /// ```text
 /// read_line(b"touch 1 0  # the second cell")    Ok(Some(Command::Touch { site: 1, letter: 0 }))

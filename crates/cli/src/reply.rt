@@ -65,8 +65,8 @@ impl<'a, C: Charge> Reply<'a, C> {
         Reply::Meters(readings)
     }
 
-    /// What an arc of `len` sites from `site` on is answered, by the readings of all sites of the ring that is open: none
-    /// where no ring is. A site that is not on the ring is refused by [`Stop::BadPosition`], at place 0.
+    /// What an arc of `len` sites from `site` on is answered, by the readings of all sites of the ring that is open:
+    /// none where no ring is. A site that is not on the ring is refused by [`Stop::BadPosition`], at place 0.
     pub fn arc(readings: &[Reading<C>], site: usize, len: usize) -> Reply<'a, C>
         ensures { ArcRight C.kind readings.now site len result }
     {
@@ -245,7 +245,8 @@ impl<C: Sent> fmt::Display for ReplyText<'_, '_, C> {
     }
 }
 
-/// A ring as a line: its letters, a digit each, and a space before each of the charges that have crossed into its sites.
+/// A ring as a line: its letters, a digit each, and a space before each of the charges that have crossed into its
+/// sites.
 #[derive(Clone, Copy)]
 pub struct RingRow<'a, C> {
     /// The letters of the ring.

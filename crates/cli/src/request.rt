@@ -71,8 +71,8 @@ fn is_option(word: &[u8]) -> bool
     matches!(word, [b'-', _, ..])
 }
 
-/// The name of a file that a word is. Refuses an option, which is a word that begins with a minus sign and has more, and
-/// a word that is no UTF-8.
+/// The name of a file that a word is. Refuses an option, which is a word that begins with a minus sign and has more,
+/// and a word that is no UTF-8.
 pub fn file_name(word: &[u8]) -> Result<&str, UsageError<'_>>
     ensures { asking (λ s. s.now) result ≡ file_name word.now }
 {
@@ -271,8 +271,8 @@ fn any_help(words: &[Vec<u8>]) -> bool
     false
 }
 
-/// What the words after the program's name ask. `--help` and `-h` may stand anywhere among them. Refuses words by the first
-/// that is wrong, or by what is missing.
+/// What the words after the program's name ask. `--help` and `-h` may stand anywhere among them. Refuses words by the
+/// first that is wrong, or by what is missing.
 ///
 /// ```text
 /// encode cars.txt cars.preset    Ok(Request::Encode { text: "cars.txt", preset: "cars.preset" })

@@ -1,6 +1,6 @@
 // A script as commands.
 ghost use Rattle.std.specs.Prelude.{◌≡◌, Some, Err, IfErr, map, vec_items};
-ghost use Rattle.console.specs.Results.{value_as, UnlessMemory};
+ghost use Rattle.console.specs.Results.{value_as, SameUnless};
 ghost use Rattle.cli.specs.Commands.{command_meant, some_command_meant, line_command};
 ghost use Rattle.cli.specs.Scripts.{numbered_of, at_line, script, wanted_text, script_sentence};
 ghost use Rattle.cli.specs.declared.script.ScriptError.TheVariants.{Memory};
@@ -43,7 +43,7 @@ fn command_at(line: NumberedLine<'_>) -> Result<Option<Command<'_>>, ScriptError
 /// The commands of a script, one for each line that has words. Refuses a script by its first line that is no command,
 /// even where there is no memory.
 pub fn read_script(alloc: Global, text: &[u8]) -> Result<Vec<Command<'_>>, ScriptError>
-    ensures commands { UnlessMemory Memory
+    ensures commands { SameUnless Memory
         (value_as (λ v. map command_meant (vec_items v)) result) (script text.now) }
     ensures wrong { IfErr (script text.now)
         (λ e. value_as (λ v. map command_meant (vec_items v)) result ≡ Err e) }

@@ -77,8 +77,8 @@ impl fmt::Display for ShownBytes<'_> {
     }
 }
 
-/// A word or a name as it is shown in a line: as it is, or byte by byte where it is no UTF-8 or has a control character.
-/// There, what is no printable sign of ASCII is `\x` and two digits. The empty word is shown as `''`.
+/// A word or a name as it is shown in a line: as it is, or byte by byte where it is no UTF-8 or has a control
+/// character. There, what is no printable sign of ASCII is `\x` and two digits. The empty word is shown as `''`.
 #[derive(Clone, Copy)]
 pub struct ShownArgument<'a> {
     /// The bytes of the word.

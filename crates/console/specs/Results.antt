@@ -1,4 +1,4 @@
--- Answers by what they stand for, and answers that need memory. Assumes nothing.
+-- Answers by what they stand for, and answers that are as defined but for one error. Assumes nothing.
 use Rattle.std.specs.Prelude.{◌≡◌, ◌≢◌, Err, Result}
 use Rattle.std.specs.Result.{result_map_both}
 
@@ -10,6 +10,6 @@ value_as f r = result_map_both f (λ e. e) r
 abbrev pub error_as : {X E F : Type 0} → (E → F) → Result X E → Result X F
 error_as f r = result_map_both (λ x. x) f r
 
--- an answer is as defined, unless its error is the one that says that there is no memory
-abbrev pub UnlessMemory : {X E : Type 0} → E → Result X E → Result X E → Type 0
-UnlessMemory no_memory r s = (r ≢ Err no_memory) → r ≡ s
+-- two answers are the same, unless the first has an error, such as that there is no memory
+abbrev pub SameUnless : {X E : Type 0} → E → Result X E → Result X E → Type 0
+SameUnless e r s = (r ≢ Err e) → r ≡ s

@@ -2,7 +2,7 @@
 ghost use Rattle.std.specs.Prelude.{◌≡◌, ◌≢◌, ◌≤◌, Some, None, Err, IfSome, IfErr, MatchBool, MatchResult, OnSome, filter_map, length, vec_items};
 ghost use Rattle.preset.specs.Writes.{writing};
 ghost use Rattle.console.specs.Encodes.{most_preset, answered, no_memory, from_writer, miscounted, bytes_of, encoded, encode_sentence};
-ghost use Rattle.console.specs.Results.{UnlessMemory};
+ghost use Rattle.console.specs.Results.{SameUnless};
 ghost use Rattle.console.specs.Grammar.{outlined};
 ghost use Rattle.console.specs.Cutting.{words_left};
 ghost use Rattle.console.specs.declared.encode.EncodeError.TheVariants.{Text};
@@ -161,7 +161,7 @@ fn encode_outline<'o>(page: Outline<'_>, out: &'o mut [u8]) -> Result<&'o [u8], 
 ///     the bytes 0 2 1 0 1 0 1 0 2
 /// ```
 pub fn encode_page(alloc: Global, text: &[u8]) -> Result<Vec<u8>, EncodeError>
-    ensures bytes { UnlessMemory no_memory (answered vec_items result) (encoded text.now) }
+    ensures bytes { SameUnless no_memory (answered vec_items result) (encoded text.now) }
     // No memory is needed to tell why a text gives no preset.
     ensures wrong { IfErr (encoded text.now) (λ e. answered vec_items result ≡ Err e) }
 {

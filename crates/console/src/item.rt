@@ -66,8 +66,8 @@ fn read_both(word: &[u8]) -> Option<Entry>
     }
 }
 
-/// An entry of a kind of charge, which is shown as a word of a page: `-3` in voices, `7` in pitch or channels, `-3:7` in
-/// both. A part that the kind does not have is not shown.
+/// An entry of a kind of charge, which is shown as a word of a page: `-3` in voices, `7` in pitch or channels, `-3:7`
+/// in both. A part that the kind does not have is not shown.
 #[derive(Clone, Copy, PartialEq, Eq, Debug)]
 pub struct EntryWord {
     /// The kind of charge.

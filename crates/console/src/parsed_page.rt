@@ -3,8 +3,8 @@ use crate::part_lines::PartLines;
 use charge::ChargeKind;
 use preset::{Entry, Header};
 
-/// The parts of a preset as a page has them, and the lines that they stand on. Neither the ranges of the numbers nor the
-/// counts of letters and entries are checked.
+/// The parts of a preset as a page has them, and the lines that they stand on. Neither the ranges of the numbers nor
+/// the counts of letters and entries are checked.
 #[derive(PartialEq, Debug, Drop)]
 pub struct ParsedPage {
     /// The kind of charge.

@@ -1,7 +1,7 @@
 // A page that is read.
 ghost use Rattle.std.specs.Prelude.{◌≡◌, Ok, Err, IfErr, vec_items, filter_map};
 ghost use Rattle.console.specs.Grammar.{content, parsed};
-ghost use Rattle.console.specs.Results.{value_as, UnlessMemory};
+ghost use Rattle.console.specs.Results.{value_as, SameUnless};
 ghost use Rattle.console.specs.Cutting.{words_left};
 ghost use Rattle.console.specs.declared.error.TextError.TheVariants.{Memory};
 
@@ -21,7 +21,7 @@ fn collect_items<T: PageItem>(
     words: LineWords<'_>,
 ) -> Result<Vec<T>, TextError>
     ensures { let items = filter_map (T.form.reads kind) (words_left words.entry) in
-        UnlessMemory Memory (value_as vec_items result) (Ok items) }
+        SameUnless Memory (value_as vec_items result) (Ok items) }
 {
     let mut items = Vec::new(alloc);
     for word in words {
@@ -36,7 +36,7 @@ fn collect_items<T: PageItem>(
 ///
 /// Refuses a text at the first line that is wrong, or where it ends too soon by the part that is due.
 pub fn parse(alloc: Global, text: &[u8]) -> Result<ParsedPage, TextError>
-    ensures draft { UnlessMemory Memory (value_as content result) (parsed text.now) }
+    ensures draft { SameUnless Memory (value_as content result) (parsed text.now) }
     // No memory is needed to tell what is wrong with a text.
     ensures wrong { IfErr (parsed text.now) (λ e. value_as content result ≡ Err e) }
 {

@@ -83,7 +83,8 @@ pub(crate) fn read_row<'a>(
 
 // The only word of a line.
 fn only_word<'a>(expected: Expected, row: Row<'a, LineWords<'a>>) -> Result<&'a [u8], TextError>
-    ensures { value_as (λ s. s.now) result ≡ only_word expected row.entry.line (words_left row.entry.value) }
+    ensures { value_as (λ s. s.now) result
+        ≡ only_word expected row.entry.line (words_left row.entry.value) }
 {
     let line = row.line;
     let mut words = row.value;
@@ -105,7 +106,8 @@ fn read_word<'a>(
     expected: Expected,
     place: Place<'a>,
 ) -> Result<Row<'a, &'a [u8]>, TextError>
-    ensures { value_as (row_of (λ s. s.now)) result ≡ word_row part expected (place_meant place.entry) }
+    ensures { value_as (row_of (λ s. s.now)) result
+        ≡ word_row part expected (place_meant place.entry) }
 {
     let row = read_row(part, place)?;
     let word = only_word(expected, row)?;
