@@ -9,70 +9,58 @@ use Rattle.bench.specs.Verdicts.{bench_checked}
 use Rattle.player.specs.Calls.{PlayerCall, PlayerAnswer, PlayerStrips}
 use Rattle.player.specs.Calls.PlayerCall.{opens, touches, steps, reads, closes}
 use Rattle.player.specs.Calls.PlayerAnswer.{done, reading, refused}
+use Rattle.player.specs.Promises.{all_strips, touch_strips}
 use Rattle.player.specs.Logs.{LogLine, Log, OnEveryLine, WithoutGaps, LineTrue}
 use Rattle.player.specs.Logs.Log.{made, ◌then◌}
 use Rattle.cases.specs.Examples.{Count, count, elementary, letter_count, counting}
 
+-- all strips, with the meters by their counts
+abbrev pub counted_strips : List ℕ → List ℕ → List ℕ → List ℕ → List ℕ → PlayerStrips Count
+counted_strips cells spare opening crossed touched =
+    all_strips cells spare (map count opening) (map count crossed) (map count touched)
+
 -- strips as long as the ring or longer; what stands past the ring stays
 abbrev pub blank : PlayerStrips Count
-blank = record {
-  cells = 9 ∷ 9 ∷ 9 ∷ 9 ∷ 7 ∷ [];
-  spare = 9 ∷ 9 ∷ 9 ∷ 9 ∷ 6 ∷ [];
-  opening = map count (5 ∷ 5 ∷ 5 ∷ 5 ∷ 4 ∷ []);
-  crossed = map count (5 ∷ 5 ∷ 5 ∷ 5 ∷ []);
-  touched = map count (5 ∷ 5 ∷ 5 ∷ 5 ∷ 3 ∷ []);
-}
+blank =
+    counted_strips
+    (9 ∷ 9 ∷ 9 ∷ 9 ∷ 7 ∷ []) (9 ∷ 9 ∷ 9 ∷ 9 ∷ 6 ∷ [])
+    (5 ∷ 5 ∷ 5 ∷ 5 ∷ 4 ∷ []) (5 ∷ 5 ∷ 5 ∷ 5 ∷ []) (5 ∷ 5 ∷ 5 ∷ 5 ∷ 3 ∷ [])
 
 abbrev pub after_open : PlayerStrips Count
-after_open = record {
-  cells = 1 ∷ 1 ∷ 0 ∷ 0 ∷ 7 ∷ [];
-  spare = 9 ∷ 9 ∷ 9 ∷ 9 ∷ 6 ∷ [];
-  opening = map count (1 ∷ 1 ∷ 0 ∷ 0 ∷ 4 ∷ []);
-  crossed = map count (0 ∷ 0 ∷ 0 ∷ 0 ∷ []);
-  touched = map count (0 ∷ 0 ∷ 0 ∷ 0 ∷ 3 ∷ []);
-}
+after_open =
+    counted_strips
+    (1 ∷ 1 ∷ 0 ∷ 0 ∷ 7 ∷ []) (9 ∷ 9 ∷ 9 ∷ 9 ∷ 6 ∷ [])
+    (1 ∷ 1 ∷ 0 ∷ 0 ∷ 4 ∷ []) (0 ∷ 0 ∷ 0 ∷ 0 ∷ []) (0 ∷ 0 ∷ 0 ∷ 0 ∷ 3 ∷ [])
 
 -- by the ring that the step makes
 abbrev pub after_step : List ℕ → PlayerStrips Count
-after_step ring = record {
-  cells = ring ++ (7 ∷ []);
-  spare = 1 ∷ 1 ∷ 0 ∷ 0 ∷ 6 ∷ [];
-  opening = map count (1 ∷ 1 ∷ 0 ∷ 0 ∷ 4 ∷ []);
-  crossed = map count (0 ∷ 0 ∷ 1 ∷ 0 ∷ []);
-  touched = map count (0 ∷ 0 ∷ 0 ∷ 0 ∷ 3 ∷ []);
-}
+after_step ring =
+    counted_strips
+    (ring ++ (7 ∷ [])) (1 ∷ 1 ∷ 0 ∷ 0 ∷ 6 ∷ [])
+    (1 ∷ 1 ∷ 0 ∷ 0 ∷ 4 ∷ []) (0 ∷ 0 ∷ 1 ∷ 0 ∷ []) (0 ∷ 0 ∷ 0 ∷ 0 ∷ 3 ∷ [])
 
 abbrev pub after_touch : PlayerStrips Count
-after_touch = record {
-  cells = 1 ∷ 1 ∷ 1 ∷ 0 ∷ 7 ∷ [];
-  spare = 1 ∷ 1 ∷ 0 ∷ 0 ∷ 6 ∷ [];
-  opening = map count (1 ∷ 1 ∷ 0 ∷ 0 ∷ 4 ∷ []);
-  crossed = map count (0 ∷ 0 ∷ 1 ∷ 0 ∷ []);
-  touched = map count (0 ∷ 1 ∷ 0 ∷ 0 ∷ 3 ∷ []);
-}
+after_touch =
+    counted_strips
+    (1 ∷ 1 ∷ 1 ∷ 0 ∷ 7 ∷ []) (1 ∷ 1 ∷ 0 ∷ 0 ∷ 6 ∷ [])
+    (1 ∷ 1 ∷ 0 ∷ 0 ∷ 4 ∷ []) (0 ∷ 0 ∷ 1 ∷ 0 ∷ []) (0 ∷ 1 ∷ 0 ∷ 0 ∷ 3 ∷ [])
 
 -- a ring of one cell
 abbrev pub after_open_one : PlayerStrips Count
-after_open_one = record {
-  cells = 1 ∷ 9 ∷ 9 ∷ 9 ∷ 7 ∷ [];
-  spare = 9 ∷ 9 ∷ 9 ∷ 9 ∷ 6 ∷ [];
-  opening = map count (1 ∷ 5 ∷ 5 ∷ 5 ∷ 4 ∷ []);
-  crossed = map count (0 ∷ 5 ∷ 5 ∷ 5 ∷ []);
-  touched = map count (0 ∷ 5 ∷ 5 ∷ 5 ∷ 3 ∷ []);
-}
+after_open_one =
+    counted_strips
+    (1 ∷ 9 ∷ 9 ∷ 9 ∷ 7 ∷ []) (9 ∷ 9 ∷ 9 ∷ 9 ∷ 6 ∷ [])
+    (1 ∷ 5 ∷ 5 ∷ 5 ∷ 4 ∷ []) (0 ∷ 5 ∷ 5 ∷ 5 ∷ []) (0 ∷ 5 ∷ 5 ∷ 5 ∷ 3 ∷ [])
 
 abbrev pub after_step_one : PlayerStrips Count
-after_step_one = record {
-  cells = 1 ∷ 9 ∷ 9 ∷ 9 ∷ 7 ∷ [];
-  spare = 1 ∷ 9 ∷ 9 ∷ 9 ∷ 6 ∷ [];
-  opening = map count (1 ∷ 5 ∷ 5 ∷ 5 ∷ 4 ∷ []);
-  crossed = map count (0 ∷ 5 ∷ 5 ∷ 5 ∷ []);
-  touched = map count (0 ∷ 5 ∷ 5 ∷ 5 ∷ 3 ∷ []);
-}
+after_step_one =
+    counted_strips
+    (1 ∷ 9 ∷ 9 ∷ 9 ∷ 7 ∷ []) (1 ∷ 9 ∷ 9 ∷ 9 ∷ 6 ∷ [])
+    (1 ∷ 5 ∷ 5 ∷ 5 ∷ 4 ∷ []) (0 ∷ 5 ∷ 5 ∷ 5 ∷ []) (0 ∷ 5 ∷ 5 ∷ 5 ∷ 3 ∷ [])
 
 -- the strips that a touch looks at, and no others
 abbrev pub touch_only : List ℕ → List ℕ → PlayerStrips Count
-touch_only cells touched = record { cells = cells; spare = []; opening = []; crossed = []; touched = map count touched }
+touch_only cells touched = touch_strips cells (map count touched)
 
 abbrev pub line : PlayerCall → PlayerStrips Count → PlayerAnswer Count → PlayerStrips Count → LogLine Count
 line call handed said left = record { call = call; handed = handed; got = record { said = said; left = left } }

@@ -14,7 +14,8 @@ ghost use Rattle.cases.specs.Examples.{count, class, residues, elementary, ones,
 ghost use Rattle.cases.specs.Examples.{gain, broken_at, pattern_10, pattern_01, bytes_184, preset_184};
 ghost use Rattle.cases.specs.WorkedLog.{WorkedLog, session, counts};
 
-// Each clause is about the very definitions that the contracts of the calls go by. The function itself does nothing.
+/// The worked examples that are proved: each clause is one, about the very definitions that the contracts of the calls
+/// go by. The function itself does nothing.
 #[tactic(auto, using(crate::proofs::Spelt::spelt_largest, crate::proofs::Classes::twelve_in_pitch, crate::proofs::WorkedLog::worked_log))]
 pub fn worked_examples()
     // Numbers as written and as read: 300 is 82 2C, and the largest is 8F FF FF FF 7F.

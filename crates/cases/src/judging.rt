@@ -15,36 +15,42 @@ fn judged<C: Charge, R: Rule + Drop, D: Density<C> + Drop>(
     Ok(Draft::new(rule, density)?.judge(crossings, ring)?.found())
 }
 
-// The sizes of a rule and of a density over one alphabet.
-#[derive(Clone, Copy)]
-struct Sizes {
-    q: u64,
-    n: u64,
-    l: u64,
-    k: u64,
-}
-
-// Those of the elementary rules, with the letters themselves weighed.
-const ELEMENTARY: Sizes = Sizes {
-    q: 2,
-    n: 3,
-    l: 1,
-    k: 1,
-};
-
-// The same for a rule and a density by their tables.
+// The same for a rule and a density over two letters, by the rule's window and reach and by their tables.
 fn judged_tables<C: Charge>(
-    sizes: Sizes,
+    (n, l): (u64, u64),
     letters: &[u8],
     entries: &[C],
     crossings: &mut [C],
     ring: &mut [u8],
 ) -> Result<Option<Break<C>>, Fault> {
     let mut rule = TableRule::zero();
-    rule.fill(sizes.q, sizes.n, sizes.l, letters)?;
+    rule.fill(2, n, l, letters)?;
     let mut density = TableDensity::zero();
-    density.fill(sizes.q, sizes.k, entries)?;
+    density.fill(2, 1, entries)?;
     judged(rule, density, crossings, ring)
+}
+
+// The window and the reach of the elementary rules.
+const ELEMENTARY: (u64, u64) = (3, 1);
+
+const RULE_184: [u8; 8] = [0, 0, 0, 1, 1, 1, 0, 1];
+
+// A voice for each 1.
+const ONES: [Voices; 2] = [Voices { count: 0 }, Voices { count: 1 }];
+
+// What is found where a word breaks the total.
+fn broken<C: Charge>(
+    word: usize,
+    len: usize,
+    first: C,
+    second: C,
+) -> Result<Option<Break<C>>, Fault> {
+    Ok(Some(Break {
+        word,
+        len,
+        first,
+        second,
+    }))
 }
 
 fn voices(count: i64) -> Voices {
@@ -55,13 +61,7 @@ fn voices(count: i64) -> Voices {
 fn rule_184_holds(rt: HostRuntime) {
     let mut crossings = [voices(77); 4];
     let mut ring = [9u8; 5];
-    let found = judged_tables(
-        ELEMENTARY,
-        &[0, 0, 0, 1, 1, 1, 0, 1],
-        &[voices(0), voices(1)],
-        &mut crossings,
-        &mut ring,
-    );
+    let found = judged_tables(ELEMENTARY, &RULE_184, &ONES, &mut crossings, &mut ring);
     assert_eq!(rt; found, Ok(None));
     assert_eq!(rt; crossings, [voices(0), voices(0), voices(1), voices(0)]);
     assert_eq!(rt; ring, [9, 9, 9, 9, 9]);
@@ -74,19 +74,11 @@ fn rule_90_breaks(rt: HostRuntime) {
     let found = judged_tables(
         ELEMENTARY,
         &[0, 1, 0, 1, 1, 0, 1, 0],
-        &[voices(0), voices(1)],
+        &ONES,
         &mut crossings,
         &mut ring,
     );
-    assert_eq!(rt;
-        found,
-        Ok(Some(Break {
-            word: 0b100,
-            len: 5,
-            first: voices(1),
-            second: voices(2),
-        }))
-    );
+    assert_eq!(rt; found, broken(0b100, 5, voices(1), voices(2)));
     assert_eq!(rt; ring, [1, 0, 0, 0, 0, 9]);
 }
 
@@ -122,26 +114,13 @@ fn pitch_breaks_on_ring_b(rt: HostRuntime) {
     let mut crossings = [class(7); 2];
     let mut ring = [9u8; 3];
     let found = judged_tables(
-        Sizes {
-            q: 2,
-            n: 2,
-            l: 0,
-            k: 1,
-        },
+        (2, 0),
         &[1, 1, 1, 1],
         &[class(0), class(4)],
         &mut crossings,
         &mut ring,
     );
-    assert_eq!(rt;
-        found,
-        Ok(Some(Break {
-            word: 0,
-            len: 2,
-            first: class(0),
-            second: class(8),
-        }))
-    );
+    assert_eq!(rt; found, broken(0, 2, class(0), class(8)));
     assert_eq!(rt; ring, [0, 0, 9]);
 }
 
@@ -149,27 +128,8 @@ fn pitch_breaks_on_ring_b(rt: HostRuntime) {
 fn one_letter_breaks(rt: HostRuntime) {
     let mut crossings = [voices(77); 1];
     let mut ring = [9u8; 1];
-    let found = judged_tables(
-        Sizes {
-            q: 2,
-            n: 1,
-            l: 0,
-            k: 1,
-        },
-        &[1, 0],
-        &[voices(0), voices(1)],
-        &mut crossings,
-        &mut ring,
-    );
-    assert_eq!(rt;
-        found,
-        Ok(Some(Break {
-            word: 0,
-            len: 1,
-            first: voices(0),
-            second: voices(1),
-        }))
-    );
+    let found = judged_tables((1, 0), &[1, 0], &ONES, &mut crossings, &mut ring);
+    assert_eq!(rt; found, broken(0, 1, voices(0), voices(1)));
     assert_eq!(rt; ring, [0]);
     assert_eq!(rt; crossings, [voices(0)]);
 }
@@ -255,13 +215,7 @@ fn limits_of_words(rt: HostRuntime) {
 fn short_crossing_strip(rt: HostRuntime) {
     let mut crossings = [voices(77); 3];
     let mut ring = [9u8; 5];
-    let found = judged_tables(
-        ELEMENTARY,
-        &[0, 0, 0, 1, 1, 1, 0, 1],
-        &[voices(0), voices(1)],
-        &mut crossings,
-        &mut ring,
-    );
+    let found = judged_tables(ELEMENTARY, &RULE_184, &ONES, &mut crossings, &mut ring);
     assert_eq!(rt; found.map_err(numbers), Err((12, 0)));
     assert_eq!(rt; crossings, [voices(77), voices(77), voices(77)]);
 }
@@ -270,13 +224,7 @@ fn short_crossing_strip(rt: HostRuntime) {
 fn short_ring_strip(rt: HostRuntime) {
     let mut crossings = [voices(77); 4];
     let mut ring = [9u8; 4];
-    let found = judged_tables(
-        ELEMENTARY,
-        &[0, 0, 0, 1, 1, 1, 0, 1],
-        &[voices(0), voices(1)],
-        &mut crossings,
-        &mut ring,
-    );
+    let found = judged_tables(ELEMENTARY, &RULE_184, &ONES, &mut crossings, &mut ring);
     assert_eq!(rt; found.map_err(numbers), Err((12, 0)));
     assert_eq!(rt; crossings, [voices(77); 4]);
 }

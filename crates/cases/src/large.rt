@@ -2,7 +2,7 @@
 // calls let each answer that there is not enough memory: here each has enough.
 use console::{encode_page, show_preset};
 use preset::{Entry, Header, write_preset};
-use report::{Line, compare_line, crossings_page, judge_line};
+use report::{ReportLine, compare_line, crossings_page, judge_line};
 use std::alloc::Global;
 use std::test::Fail;
 
@@ -64,7 +64,7 @@ fn last_letters(alloc: Global, kind: Kind, n: u64, k: u64) -> Result<Vec<u8>, Fa
 }
 
 // Whether what is shown of a preset is encoded as its bytes again, and then its verdict and its crossings.
-fn answers(alloc: Global, bytes: &[u8]) -> Result<(bool, Line, Line), Fail> {
+fn answers(alloc: Global, bytes: &[u8]) -> Result<(bool, ReportLine, ReportLine), Fail> {
     let page = show_preset(alloc, bytes)?;
     let again = encode_page(alloc, page.as_bytes())?;
     let verdict = judge_line(alloc, "A", bytes)?;

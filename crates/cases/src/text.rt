@@ -26,6 +26,18 @@ const DENSITY: [Entry; 2] = [
     },
 ];
 
+// Entries of kind both: 3:11 and -4:0.
+const CHORDS: [Entry; 2] = [
+    Entry {
+        signed: 3,
+        plain: 11,
+    },
+    Entry {
+        signed: -4,
+        plain: 0,
+    },
+];
+
 const PAGE: &str =
     "kind voices\nletters 2\nwindow 3\nreach 1\nwidth 1\nrule 0 0 0 1 1 1 0 1\ndensity 0 1\nbytes 15\n";
 
@@ -54,19 +66,7 @@ fn loose_lines_are_read(rt: HostRuntime) -> Result<(), Fail> {
     let draft = parse(rt.alloc(), LOOSE)?;
     assert_eq!(rt; draft.kind, ChargeKind::Both);
     assert_eq!(rt; draft.letters.as_slice(), &[0, 1][..]);
-    assert_eq!(rt;
-        draft.entries.as_slice(),
-        &[
-            Entry {
-                signed: 3,
-                plain: 11,
-            },
-            Entry {
-                signed: -4,
-                plain: 0,
-            },
-        ][..]
-    );
+    assert_eq!(rt; draft.entries.as_slice(), &CHORDS[..]);
     assert_eq!(rt; draft.lines.width, 8);
     assert_eq!(rt; line_of_refusal(draft.lines, Stop::TooManyWords), Some(8));
     Ok(())
@@ -74,17 +74,7 @@ fn loose_lines_are_read(rt: HostRuntime) -> Result<(), Fail> {
 
 #[test]
 fn entries_of_kind_both_are_written(rt: HostRuntime) -> Result<(), Fail> {
-    let entries = [
-        Entry {
-            signed: 3,
-            plain: 11,
-        },
-        Entry {
-            signed: -4,
-            plain: 0,
-        },
-    ];
-    let text = page(rt.alloc(), ChargeKind::Both, HEADER, &[1], &entries, 9)?;
+    let text = page(rt.alloc(), ChargeKind::Both, HEADER, &[1], &CHORDS, 9)?;
     let end = "rule 1\ndensity 3:11 -4:0\nbytes 9\n";
     assert!(rt; text.as_str().ends_with(end));
     Ok(())
@@ -107,7 +97,9 @@ fn wrong_lines_are_named(rt: HostRuntime) -> Result<(), Fail> {
     );
     assert_eq!(rt;
         parse(alloc, b"kind pitch\n"),
-        Err(TextError::Ended { due: PagePart::Letters })
+        Err(TextError::Ended {
+            due: PagePart::Letters
+        })
     );
     Ok(())
 }

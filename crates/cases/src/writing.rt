@@ -23,6 +23,10 @@ const VOICES: Header = Header {
     k: 1,
 };
 
+fn entry(signed: i64, plain: u64) -> Entry {
+    Entry { signed, plain }
+}
+
 // How many bytes were written, or the code and the place of the refusal.
 fn written(
     header: Header,
@@ -43,16 +47,7 @@ fn rule_184(rt: HostRuntime) {
 // Entries of two and of five bytes: they are sent as 300 and as the largest number.
 #[test]
 fn groups_of_seven_bits(rt: HostRuntime) {
-    let entries = [
-        Entry {
-            signed: 150,
-            plain: 0,
-        },
-        Entry {
-            signed: -2_147_483_648,
-            plain: 0,
-        },
-    ];
+    let entries = [entry(150, 0), entry(-2_147_483_648, 0)];
     let mut out = [9u8; 21];
     assert_eq!(rt;
         written(VOICES, &RULE_184, &entries, &mut out[0..19]),
@@ -68,99 +63,27 @@ fn groups_of_seven_bits(rt: HostRuntime) {
     );
 }
 
+fn header(kind: u64, q: u64, n: u64, l: u64, k: u64) -> Header {
+    Header { kind, q, n, l, k }
+}
+
 #[test]
 fn header_refusals(rt: HostRuntime) {
     let mut out = [9u8; 16];
-    assert_eq!(rt;
-        written(
-            Header {
-                kind: 4,
-                q: 9,
-                n: 3,
-                l: 1,
-                k: 1,
-            },
-            &RULE_184,
-            &WEIGHTS,
-            &mut out,
-        ),
-        Err((3, 0))
-    );
-    assert_eq!(rt;
-        written(
-            Header {
-                kind: 0,
-                q: 9,
-                n: 13,
-                l: 1,
-                k: 1,
-            },
-            &RULE_184,
-            &WEIGHTS,
-            &mut out,
-        ),
-        Err((4, 0))
-    );
-    assert_eq!(rt;
-        written(
-            Header {
-                kind: 0,
-                q: 2,
-                n: 13,
-                l: 13,
-                k: 1,
-            },
-            &RULE_184,
-            &WEIGHTS,
-            &mut out,
-        ),
-        Err((5, 0))
-    );
-    assert_eq!(rt;
-        written(
-            Header {
-                kind: 0,
-                q: 2,
-                n: 3,
-                l: 3,
-                k: 13,
-            },
-            &RULE_184,
-            &WEIGHTS,
-            &mut out,
-        ),
-        Err((6, 0))
-    );
-    assert_eq!(rt;
-        written(
-            Header {
-                kind: 0,
-                q: 2,
-                n: 3,
-                l: 1,
-                k: 13,
-            },
-            &RULE_184,
-            &WEIGHTS,
-            &mut out,
-        ),
-        Err((7, 0))
-    );
-    assert_eq!(rt;
-        written(
-            Header {
-                kind: 0,
-                q: 8,
-                n: 4,
-                l: 1,
-                k: 2,
-            },
-            &RULE_184,
-            &WEIGHTS,
-            &mut out,
-        ),
-        Err((9, 0))
-    );
+    let refused = [
+        (header(4, 9, 3, 1, 1), 3),
+        (header(0, 9, 13, 1, 1), 4),
+        (header(0, 2, 13, 13, 1), 5),
+        (header(0, 2, 3, 3, 13), 6),
+        (header(0, 2, 3, 1, 13), 7),
+        (header(0, 8, 4, 1, 2), 9),
+    ];
+    for (header, code) in refused {
+        assert_eq!(rt;
+            written(header, &RULE_184, &WEIGHTS, &mut out),
+            Err((code, 0))
+        );
+    }
     assert_eq!(rt; out, [9; 16]);
 }
 
@@ -179,27 +102,9 @@ fn strip_refusals(rt: HostRuntime) {
         written(VOICES, &[0, 0, 2, 1, 1, 1, 0, 3], &WEIGHTS, &mut out),
         Err((14, 2))
     );
-    let heavy = [
-        Entry {
-            signed: 0,
-            plain: 0,
-        },
-        Entry {
-            signed: 2_147_483_648,
-            plain: 0,
-        },
-    ];
+    let heavy = [entry(0, 0), entry(2_147_483_648, 0)];
     assert_eq!(rt; written(VOICES, &RULE_184, &heavy, &mut out), Err((15, 1)));
-    let mixed = [
-        Entry {
-            signed: 0,
-            plain: 1,
-        },
-        Entry {
-            signed: 0,
-            plain: 0,
-        },
-    ];
+    let mixed = [entry(0, 1), entry(0, 0)];
     assert_eq!(rt; written(VOICES, &RULE_184, &mixed, &mut out), Err((15, 0)));
     assert_eq!(rt;
         written(VOICES, &RULE_184, &WEIGHTS, &mut out),

@@ -4,24 +4,24 @@ use Rattle.std.proofs.lemmas.Bool.{cases_Bool}
 use Rattle.std.proofs.lemmas.List.{nil_from_length}
 use Rattle.console.specs.Cutting.{newline, leading, past}
 use Rattle.console.specs.declared.cutting.Class.TheVariants.{NotNewline}
-use Rattle.cli.specs.Lines.{before, lines}
+use Rattle.cli.specs.Lines.{on_first, lines}
 
 -- the first line, and the lines past the byte that ends it
-abbrev cut : List ℕ → List (List ℕ)
-cut bs = leading NotNewline bs ∷ lines (drop 1 (past NotNewline bs))
+abbrev cut_once : List ℕ → List (List ℕ)
+cut_once bs = leading NotNewline bs ∷ lines (drop 1 (past NotNewline bs))
 
 module _ (b : ℕ) (bs : List ℕ) where
-  at-newline : eqb b newline ≡ true → lines (b ∷ bs) ≡ cut (b ∷ bs)
+  at-newline : eqb b newline ≡ true → lines (b ∷ bs) ≡ cut_once (b ∷ bs)
   at-newline e = rw e
 
-  past : eqb b newline ≡ false → before b (lines bs) ≡ (b ∷ leading NotNewline bs) ∷ lines (drop 1 (past NotNewline bs)) → lines (b ∷ bs) ≡ cut (b ∷ bs)
-  past e h = rw (e, one-add) h
+  in-line : eqb b newline ≡ false → on_first b (lines bs) ≡ (b ∷ leading NotNewline bs) ∷ lines (drop 1 (past NotNewline bs)) → lines (b ∷ bs) ≡ cut_once (b ∷ bs)
+  in-line e h = rw (e, one-add) h
 
-cut-some : (b : ℕ) (bs : List ℕ) → lines (b ∷ bs) ≡ cut (b ∷ bs)
-cut-some b [] = ⊎_elim (at-newline b []) (λ e. past b [] e refl) (cases_Bool (eqb b newline))
-cut-some b (c ∷ bs) = ⊎_elim (at-newline b (c ∷ bs)) (λ e. past b (c ∷ bs) e (ap (before b) (cut-some c bs))) (cases_Bool (eqb b newline))
+cut-some : (b : ℕ) (bs : List ℕ) → lines (b ∷ bs) ≡ cut_once (b ∷ bs)
+cut-some b [] = ⊎_elim (at-newline b []) (λ e. in-line b [] e refl) (cases_Bool (eqb b newline))
+cut-some b (c ∷ bs) = ⊎_elim (at-newline b (c ∷ bs)) (λ e. in-line b (c ∷ bs) e (ap (on_first b) (cut-some c bs))) (cases_Bool (eqb b newline))
 
-pub line_cut : (bs : List ℕ) → (length bs ≡ 0 → ⊥) → lines bs ≡ cut bs
+pub line_cut : (bs : List ℕ) → (length bs ≡ 0 → ⊥) → lines bs ≡ cut_once bs
 line_cut [] h = absurd (h refl)
 line_cut (b ∷ bs) h = cut-some b bs
 

@@ -5,14 +5,15 @@ use Rattle.std.specs.List.{AllByRecursion}
 use Rattle.std.specs.Option.{ok_or}
 use Rattle.std.specs.Str.{all_ascii_digits}
 use Rattle.fault.specs.Answers.{and_then}
+use Rattle.console.specs.Names.{named}
 use Rattle.console.specs.Numbers.{number_end, number}
+use Rattle.console.specs.Results.{value_as}
 use Rattle.automaton.specs.Shown.{digits}
 use Rattle.console.specs.Pages.{spaced}
 use Rattle.console.specs.Cutting.{leading, words}
 use Rattle.console.specs.declared.cutting.Class.TheVariants.{NotHash}
 use Rattle.player.specs.Calls.{PlayerCall}
 use Rattle.player.specs.Calls.PlayerCall.{opens as call_opens, touches as call_touches, steps as call_steps, reads as call_reads, closes as call_closes}
-use Rattle.cli.specs.Names.{named}
 use Rattle.cli.specs.declared.command.Command.{Command}
 use Rattle.cli.specs.declared.command.Command.TheVariants as command
 use Rattle.cli.specs.declared.command.Verb.{Verb}
@@ -72,10 +73,6 @@ some_command_meant (Some c) = Some (command_meant c)
 abbrev pub LineReading : Type 0 → Type 0
 LineReading X = Result X Wanted
 
-abbrev pub read : {X Y : Type 0} → (X → Y) → LineReading X → LineReading Y
-read f (Ok x) = Ok (f x)
-read f (Err e) = Err e
-
 -- a word that may be there
 abbrev pub lent_word : Option (Bor (List ℕ)) → Option (List ℕ)
 lent_word None = None
@@ -97,8 +94,9 @@ abbrev pub number_word : Wanted → Option (List ℕ) → LineReading ℕ
 number_word wanted None = Err wanted
 number_word wanted (Some w) = ok_or (count w) wanted
 
-abbrev pub few : ℕ → LineReading ℕ
-few n = cond (nat_le n most_steps) (Ok n) (Err FewerSteps)
+-- steps that are run at once, unless they are too many
+abbrev pub few_steps : ℕ → Option ℕ
+few_steps n = cond (nat_le n most_steps) (Some n) None
 
 -- what each sort of command makes of the words after its name
 abbrev pub open_command : Option (List ℕ) → Option (List ℕ) → LineReading ScriptCommand
@@ -108,29 +106,23 @@ open_command (Some w) second = and_then (ok_or (ring w) Letters) (λ r. at_end s
 abbrev pub step_command : Option (List ℕ) → Option (List ℕ) → LineReading ScriptCommand
 step_command None second = Ok step
 step_command (Some w) second =
-    and_then (ok_or (count w) Steps) (λ n. and_then (few n) (λ m. at_end second (steps m)))
+    and_then (ok_or (count w) Steps) (λ n. and_then (ok_or (few_steps n) FewerSteps) (λ m. at_end second (steps m)))
 
 -- a site and a number, and nothing more
 abbrev pub site_and : Wanted → Option (List ℕ) → Option (List ℕ) → Option (List ℕ) → LineReading (ℕ × ℕ)
 site_and wanted first second third =
     and_then (number_word Site first) (λ site. and_then (number_word wanted second) (λ n. at_end third (site, n)))
 
-abbrev pub touch_command : Option (List ℕ) → Option (List ℕ) → Option (List ℕ) → LineReading ScriptCommand
-touch_command first second third = read (λ p. touches p.0 p.1) (site_and Letter first second third)
-
 abbrev pub read_command : Option (List ℕ) → Option (List ℕ) → LineReading ScriptCommand
 read_command first second = and_then (number_word Site first) (λ site. at_end second (reads site))
-
-abbrev pub arc_command : Option (List ℕ) → Option (List ℕ) → Option (List ℕ) → LineReading ScriptCommand
-arc_command first second third = read (λ p. arc p.0 p.1) (site_and Length first second third)
 
 -- what a command of a sort is, by the words after its name
 abbrev pub of_verb : Verb → Option (List ℕ) → Option (List ℕ) → Option (List ℕ) → LineReading ScriptCommand
 of_verb verb.Open first second third = open_command first second
 of_verb verb.Step first second third = step_command first second
-of_verb verb.Touch first second third = touch_command first second third
+of_verb verb.Touch first second third = value_as (λ p. touches p.0 p.1) (site_and Letter first second third)
 of_verb verb.Read first second third = read_command first second
-of_verb verb.Arc first second third = arc_command first second third
+of_verb verb.Arc first second third = value_as (λ p. arc p.0 p.1) (site_and Length first second third)
 of_verb verb.Meters first second third = at_end first meters
 of_verb verb.Close first second third = at_end first closes
 
@@ -183,11 +175,11 @@ arguments (arc site len) = decimal site ∷ (decimal len ∷ [])
 arguments meters = []
 arguments closes = []
 
--- a command as lent_word: its name, and a space before each word after it
+-- a command as text: its name, and a space before each word after it
 abbrev pub command_text : ScriptCommand → List ℕ
 command_text c = verb_text (verb_of c) ++ spaced (λ w. w) (arguments c)
 
--- The player's call that a command is, if it is one call, for the ring that is opened. A number above every letter is command_meant as
+-- The player's call that a command is, if it is one call, for the ring that is opened. A number above every letter is asked as
 -- the highest, which no alphabet has.
 abbrev pub one_call : ScriptCommand → List ℕ → Option PlayerCall
 one_call (opens r) ring = Some (call_opens ring)
@@ -211,6 +203,6 @@ Sayable (arc site len) = (site ≤ number_end) × (len ≤ number_end)
 Sayable meters = Unit {0}
 Sayable closes = Unit {0}
 
--- a command that is written as lent_word is read back as that command
+-- a command that is written as text is read back as that command
 abbrev pub ReadsBack : Type 0
 ReadsBack = (c : ScriptCommand) → Sayable c → line_command (command_text c) ≡ Ok (Some c)

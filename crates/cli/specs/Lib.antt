@@ -1,6 +1,5 @@
 pub mod Commands
 pub mod Lines
-pub mod Names
 pub mod Outcomes
 pub mod Replies
 pub mod Requests

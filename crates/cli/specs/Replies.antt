@@ -6,6 +6,7 @@ use Rattle.preset.specs.Sending.{Sending}
 use Rattle.automaton.specs.Shown.{digits}
 use Rattle.console.specs.Forms.{entry_text}
 use Rattle.console.specs.Pages.{spaced}
+use Rattle.console.specs.declared.item.EntryWord.{EntryWord}
 use Rattle.charge.specs.Groups.{Kind}
 use Rattle.report.specs.Texts.{rows_text}
 use Rattle.player.specs.Arcs.{arc_of, arc_means}
@@ -42,7 +43,15 @@ adding_text true = codes "adds up"
 adding_text false = codes "does not add up"
 
 module _ {C : Type 0} (S : Sending C) where
-  -- a charge as a word
+  -- a charge as a word of a text, and the meters of a site as such words
+  abbrev pub charge_word : C → EntryWord
+  charge_word x = record { kind = S.named; entry = S.entry x }
+
+  abbrev pub reading_words : Reading C → Reading EntryWord
+  reading_words m =
+      record { opening = charge_word m.opening; crossed = charge_word m.crossed; touched = charge_word m.touched; now = charge_word m.now }
+
+  -- the text of a charge
   abbrev pub charge_text : C → List ℕ
   charge_text x = entry_text S.named (S.entry x)
 

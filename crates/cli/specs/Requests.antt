@@ -1,10 +1,12 @@
 -- What the program's arguments ask. Assumes nothing.
-use Rattle.std.specs.Prelude.{ℕ, Bool, true, false, cond, ◌||◌, List, [], ◌∷◌, ◌++◌, map, length, Some, None, Ok, Err, Option, Result, ◌==◌, nat_le, codes, decimal, vec_items}
+use Rattle.std.specs.Prelude.{ℕ, Bool, true, false, cond, ◌||◌, List, [], ◌∷◌, ◌++◌, map, Some, None, Ok, Err, Option, Result, ◌==◌, codes, decimal, vec_items}
 use Rattle.std.specs.Option.{ok_or}
+use Rattle.std.specs.Result.{result_map_both}
 use Rattle.std.specs.Str.{bytes_eq}
 use Rattle.fault.specs.Answers.{and_then}
-use Rattle.cli.specs.Commands.{count, ring, most_steps, word_at, letters}
-use Rattle.cli.specs.Names.{named}
+use Rattle.console.specs.Names.{named}
+use Rattle.console.specs.Results.{value_as}
+use Rattle.cli.specs.Commands.{count, ring, few_steps, most_steps, word_at, letters}
 use Rattle.cli.specs.ShownArguments.{is_utf8, shown_argument}
 use Rattle.cli.specs.declared.request.Request.{Request}
 use Rattle.cli.specs.declared.request.Request.TheVariants as request
@@ -13,7 +15,7 @@ use Rattle.cli.specs.declared.usage.Operand.TheVariants.{Text, Preset, Ring, Ste
 use Rattle.cli.specs.declared.usage.UsageError.{UsageError}
 use Rattle.cli.specs.declared.usage.UsageError.TheVariants as usage
 use Rattle.cli.specs.declared.subcommand.Subcommand.{Subcommand}
-use Rattle.cli.specs.declared.subcommand.Subcommand.TheVariants as verb
+use Rattle.cli.specs.declared.subcommand.Subcommand.TheVariants as subcommand
 
 -- What is asked, with the names of files, a ring by its letters, and how many steps; judge has its words as they are.
 pub data ProgramRequest : Type 0 where
@@ -64,8 +66,7 @@ OrComplaint X = Result X Complaint
 
 -- an answer by what its value stands for
 abbrev pub asking : {X Y : Type 0} → (X → Y) → Result X UsageError → OrComplaint Y
-asking f (Ok x) = Ok (f x)
-asking f (Err e) = Err (complaint e)
+asking f r = result_map_both f complaint r
 
 -- a word that begins with a minus sign and has more is an option
 abbrev pub is_option : List ℕ → Bool
@@ -74,56 +75,58 @@ is_option (b ∷ []) = false
 is_option (b ∷ (c ∷ bs)) = b == 45
 
 -- a word that names a file
-abbrev pub name : List ℕ → OrComplaint (List ℕ)
-name w = cond (is_option w) (Err (unknown_option w)) (cond (is_utf8 w) (Ok w) (Err (not_text w)))
+abbrev pub file_name : List ℕ → OrComplaint (List ℕ)
+file_name w = cond (is_option w) (Err (unknown_option w)) (cond (is_utf8 w) (Ok w) (Err (not_text w)))
 
 -- the operands of a command, one after another
 abbrev pub operand : Operand → Option (List ℕ) → OrComplaint (List ℕ)
 operand what None = Err (missing what)
-operand what (Some w) = name w
+operand what (Some w) = file_name w
+
+-- the word for an operand that is no file
+abbrev pub operand_word : Operand → Option (List ℕ) → OrComplaint (List ℕ)
+operand_word what None = Err (missing what)
+operand_word what (Some w) = cond (is_option w) (Err (unknown_option w)) (Ok w)
 
 abbrev pub ring_operand : Option (List ℕ) → OrComplaint (List ℕ)
-ring_operand None = Err (missing Ring)
-ring_operand (Some w) = cond (is_option w) (Err (unknown_option w)) (ok_or (ring w) (not_ring w))
-
-abbrev pub few_steps : List ℕ → ℕ → OrComplaint ℕ
-few_steps w n = cond (nat_le n most_steps) (Ok n) (Err (many_steps w))
+ring_operand o = and_then (operand_word Ring o) (λ w. ok_or (ring w) (not_ring w))
 
 abbrev pub steps_operand : Option (List ℕ) → OrComplaint ℕ
-steps_operand None = Err (missing Steps)
-steps_operand (Some w) =
-    cond (is_option w) (Err (unknown_option w)) (and_then (ok_or (count w) (not_steps w)) (few_steps w))
+steps_operand o =
+    and_then (operand_word Steps o) (λ w.
+    and_then (ok_or (count w) (not_steps w)) (λ n.
+    ok_or (few_steps n) (many_steps w)))
 
 -- nothing may follow
-abbrev pub no_more : {X : Type 0} → Option (List ℕ) → X → OrComplaint X
-no_more None x = Ok x
-no_more (Some w) x = Err (cond (is_option w) (unknown_option w) (surplus w))
+abbrev pub no_more : Option (List ℕ) → OrComplaint (Unit {0})
+no_more None = Ok tt
+no_more (Some w) = Err (cond (is_option w) (unknown_option w) (surplus w))
 
--- the option of run, and nothing more
-abbrev pub meters_flag : Option (List ℕ) → Option (List ℕ) → (Bool → ProgramRequest) → OrComplaint ProgramRequest
-meters_flag None next f = Ok (f false)
-meters_flag (Some w) next f = cond (bytes_eq w (codes "--meters")) (no_more next (f true)) (no_more (Some w) (f false))
+-- whether the option of run is there, and nothing more
+abbrev pub meters_flag : Option (List ℕ) → Option (List ℕ) → OrComplaint Bool
+meters_flag None next = Ok false
+meters_flag (Some w) next = cond (bytes_eq w (codes "--meters")) (and_then (no_more next) (λ _. Ok true)) (and_then (no_more (Some w)) (λ _. Ok false))
 
 -- the commands by name
 abbrev pub subcommand_text : Subcommand → List ℕ
-subcommand_text verb.Help = codes "help"
-subcommand_text verb.Show = codes "show"
-subcommand_text verb.Encode = codes "encode"
-subcommand_text verb.Judge = codes "judge"
-subcommand_text verb.Crossings = codes "crossings"
-subcommand_text verb.Compare = codes "compare"
-subcommand_text verb.Play = codes "play"
-subcommand_text verb.Run = codes "run"
+subcommand_text subcommand.Help = codes "help"
+subcommand_text subcommand.Show = codes "show"
+subcommand_text subcommand.Encode = codes "encode"
+subcommand_text subcommand.Judge = codes "judge"
+subcommand_text subcommand.Crossings = codes "crossings"
+subcommand_text subcommand.Compare = codes "compare"
+subcommand_text subcommand.Play = codes "play"
+subcommand_text subcommand.Run = codes "run"
 
 abbrev pub named_subcommand : List ℕ → Option Subcommand
 named_subcommand =
     named subcommand_text
-    (verb.Help ∷ verb.Show ∷ verb.Encode ∷ verb.Judge ∷ verb.Crossings ∷ verb.Compare ∷ verb.Play ∷ verb.Run ∷ [])
+    (subcommand.Help ∷ subcommand.Show ∷ subcommand.Encode ∷ subcommand.Judge ∷ subcommand.Crossings ∷ subcommand.Compare ∷ subcommand.Play ∷ subcommand.Run ∷ [])
 
--- the name of a command
-abbrev pub command_named : Option (List ℕ) → OrComplaint Subcommand
-command_named None = Err no_command
-command_named (Some w) =
+-- the command that the first word names
+abbrev pub first_subcommand : Option (List ℕ) → OrComplaint Subcommand
+first_subcommand None = Err no_command
+first_subcommand (Some w) =
     ok_or (named_subcommand w) (cond (is_option w) (unknown_option w) (unknown_command w))
 
 -- at least one word
@@ -131,32 +134,36 @@ abbrev pub judge_request : List (List ℕ) → OrComplaint ProgramRequest
 judge_request [] = Err (missing Preset)
 judge_request (w ∷ ws) = Ok (judge (w ∷ ws))
 
--- what a command asks, by the words after its name
-abbrev pub one_file : (List ℕ → ProgramRequest) → List (List ℕ) → OrComplaint ProgramRequest
-one_file f ws = and_then (operand Preset (word_at 0 ws)) (λ preset. no_more (word_at 1 ws) (f preset))
+-- a preset, and nothing more
+abbrev pub one_file : List (List ℕ) → OrComplaint (List ℕ)
+one_file ws = and_then (operand Preset (word_at 0 ws)) (λ preset. and_then (no_more (word_at 1 ws)) (λ _. Ok preset))
 
-abbrev pub two_files : Operand → (List ℕ → List ℕ → ProgramRequest) → List (List ℕ) → OrComplaint ProgramRequest
-two_files what f ws =
+-- a file that is an operand, a preset, and nothing more
+abbrev pub two_files : Operand → List (List ℕ) → OrComplaint (List ℕ × List ℕ)
+two_files what ws =
     and_then (operand what (word_at 0 ws)) (λ first.
     and_then (operand Preset (word_at 1 ws)) (λ second.
-    no_more (word_at 2 ws) (f first second)))
+    and_then (no_more (word_at 2 ws)) (λ _.
+    Ok (first, second))))
 
 abbrev pub run_request : List (List ℕ) → OrComplaint ProgramRequest
 run_request ws =
     and_then (operand Preset (word_at 0 ws)) (λ preset.
     and_then (ring_operand (word_at 1 ws)) (λ ring.
     and_then (steps_operand (word_at 2 ws)) (λ steps.
-    meters_flag (word_at 3 ws) (word_at 4 ws) (run preset ring steps))))
+    and_then (meters_flag (word_at 3 ws) (word_at 4 ws)) (λ meters.
+    Ok (run preset ring steps meters)))))
 
+-- what a command asks, by the words after its name
 abbrev pub asked_of : Subcommand → List (List ℕ) → OrComplaint ProgramRequest
-asked_of verb.Help ws = no_more (word_at 0 ws) help
-asked_of verb.Show ws = one_file show ws
-asked_of verb.Encode ws = two_files Text encode ws
-asked_of verb.Judge ws = judge_request ws
-asked_of verb.Crossings ws = one_file crossings ws
-asked_of verb.Compare ws = two_files Preset compare ws
-asked_of verb.Play ws = one_file play ws
-asked_of verb.Run ws = run_request ws
+asked_of subcommand.Help ws = and_then (no_more (word_at 0 ws)) (λ _. Ok help)
+asked_of subcommand.Show ws = value_as show (one_file ws)
+asked_of subcommand.Encode ws = value_as (λ p. encode p.0 p.1) (two_files Text ws)
+asked_of subcommand.Judge ws = judge_request ws
+asked_of subcommand.Crossings ws = value_as crossings (one_file ws)
+asked_of subcommand.Compare ws = value_as (λ p. compare p.0 p.1) (two_files Preset ws)
+asked_of subcommand.Play ws = value_as play (one_file ws)
+asked_of subcommand.Run ws = run_request ws
 
 -- a word that asks for the page of help, wherever it stands
 abbrev pub asks_help : List ℕ → Bool
@@ -175,7 +182,7 @@ abbrev pub requested : List (List ℕ) → OrComplaint ProgramRequest
 requested ws =
     cond (any_help ws)
     (Ok help)
-    (and_then (command_named (word_at 0 ws)) (λ v. asked_of v (others ws)))
+    (and_then (first_subcommand (word_at 0 ws)) (λ v. asked_of v (others ws)))
 
 abbrev pub operand_text : Operand → List ℕ
 operand_text Text = codes "TEXT"

@@ -1,6 +1,7 @@
 -- What a script asks: its lines, and the commands that they are. Assumes nothing.
-use Rattle.std.specs.Prelude.{◌≡◌, ℕ, ◌+◌, List, [], ◌∷◌, ◌++◌, Some, None, Ok, Err, Option, Result, ◌≢◌, codes, decimal}
+use Rattle.std.specs.Prelude.{ℕ, ◌+◌, List, [], ◌∷◌, ◌++◌, Some, None, Ok, Option, Result, codes, decimal}
 use Rattle.fault.specs.Answers.{and_then}
+use Rattle.console.specs.Results.{error_as}
 use Rattle.cli.specs.Lines.{lines}
 use Rattle.cli.specs.Commands.{ScriptCommand, LineReading, line_command, most_steps}
 use Rattle.cli.specs.declared.line.Wanted.{Wanted}
@@ -33,8 +34,7 @@ with_command (Some c) cs = c ∷ cs
 
 -- the command of a numbered line, or what the line should have
 abbrev pub at_line : Numbered → LineReading (Option ScriptCommand) → Result (Option ScriptCommand) ScriptError
-at_line l (Ok c) = Ok c
-at_line l (Err wanted) = Err (Line l.number wanted)
+at_line l r = error_as (Line l.number) r
 
 abbrev pub commands : List Numbered → Result (List ScriptCommand) ScriptError
 commands [] = Ok []
@@ -44,15 +44,6 @@ commands (l ∷ ls) =
 -- the commands that a script is, or its first line that is none and what it should have
 abbrev pub script : List ℕ → Result (List ScriptCommand) ScriptError
 script text = commands (numbered 1 (lines text))
-
--- an answer by what its value stands for
-abbrev pub scripted : {X Y : Type 0} → (X → Y) → Result X ScriptError → Result Y ScriptError
-scripted f (Ok x) = Ok (f x)
-scripted f (Err e) = Err e
-
--- an answer is as defined, unless there is no memory
-abbrev pub Told : {X : Type 0} → Result X ScriptError → Result X ScriptError → Type 0
-Told r s = (r ≢ Err Memory) → r ≡ s
 
 -- what is said of a line that is no command
 abbrev pub wanted_text : Wanted → List ℕ

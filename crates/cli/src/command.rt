@@ -5,44 +5,70 @@ ghost use Rattle.player.specs.Answers.{call_meant};
 ghost use Rattle.automaton.specs.Shown.{digits};
 ghost use Rattle.cli.specs.Commands.{command_meant, letters, command_text, verb_of, one_call};
 
-use crate::names::Named;
+use console::Named;
 use player::Call;
 use std::alloc::{AllocError, Global};
 use std::fmt;
 
-// The letters of a ring as text, a digit each.
+/// The letters of a ring as a script and the arguments have them, a digit each.
 #[derive(Clone, Copy, PartialEq, Eq, Debug)]
-pub struct Digits<'a> {
+pub struct RingDigits<'a> {
+    /// The digits, as bytes of ASCII.
     pub text: &'a [u8],
 }
 
-// What sort of command a line is.
+/// What sort of command a line of a script is, by the word that it begins with.
 #[derive(Clone, Copy, PartialEq, Eq, Debug)]
 pub enum Verb {
+    /// `open`.
     Open,
+    /// `step`.
     Step,
+    /// `touch`.
     Touch,
+    /// `read`.
     Read,
+    /// `arc`.
     Arc,
+    /// `meters`.
     Meters,
+    /// `close`.
     Close,
 }
 
-// What a line of a script asks.
+/// What a line of a script asks. Its text is a line that is read back as the same command. Sites are counted from 0.
 #[derive(Clone, Copy, PartialEq, Eq, Debug)]
 pub enum Command<'a> {
-    Open(Digits<'a>),
+    /// `open RING`: opens a ring with these letters, or with none.
+    Open(RingDigits<'a>),
+    /// `step`: one step.
     Step,
+    /// `step N`: so many steps, answered as one.
     Steps(usize),
-    Touch { site: usize, letter: usize },
+    /// `touch SITE LETTER`: gives a cell another letter.
+    Touch {
+        /// The cell's site.
+        site: usize,
+        /// Its letter from now on.
+        letter: usize,
+    },
+    /// `read SITE`: the meters of a site.
     Read(usize),
-    Arc { site: usize, len: usize },
+    /// `arc SITE LENGTH`: the meters of an arc.
+    Arc {
+        /// The first site of the arc.
+        site: usize,
+        /// How many sites it has.
+        len: usize,
+    },
+    /// `meters`: the meters of every site.
     Meters,
+    /// `close`: closes the ring.
     Close,
 }
 
-impl Digits<'_> {
-    // The letters.
+impl RingDigits<'_> {
+    /// The letters, one for each digit. Only want of memory is refused.
     pub fn to_letters(self, alloc: Global) -> Result<Vec<u8>, AllocError>
         ensures { IfOk result (λ v. vec_items v ≡ letters self.entry.text.now) }
     {
@@ -54,7 +80,7 @@ impl Digits<'_> {
     }
 }
 
-impl fmt::Display for Digits<'_> {
+impl fmt::Display for RingDigits<'_> {
     ghost output = { λ d. Some (digits (letters d.text.now)) };
 
     fn fmt<W: fmt::Write>(&self, f: &mut fmt::Formatter<W>) -> fmt::Result {
@@ -67,7 +93,7 @@ impl fmt::Display for Digits<'_> {
 }
 
 impl Command<'_> {
-    // What sort of command it is.
+    /// What sort of command it is.
     pub fn verb(&self) -> Verb
         ensures { result ≡ verb_of (command_meant self.now) }
     {
@@ -82,8 +108,9 @@ impl Command<'_> {
         }
     }
 
-    // The player's call that it is, if it is one call, where `ring` has the letters of the ring that it opens. A number
-    // above every letter is asked as the highest, which no alphabet has.
+    /// The player's call that it is, if it is one call: steps at once, an arc and the meters are none. `ring` has the
+    /// letters of the ring that `open` opens, and is not looked at otherwise. A letter above 255 is asked as 255, which
+    /// no alphabet has.
     pub fn call<'a>(&self, ring: &'a [u8]) -> Option<Call<'a>>
         ensures { option_map call_meant result ≡ one_call (command_meant self.now) ring.now }
     {
@@ -107,7 +134,7 @@ impl fmt::Display for Command<'_> {
     fn fmt<W: fmt::Write>(&self, f: &mut fmt::Formatter<W>) -> fmt::Result {
         let name = self.verb().name();
         match self {
-            Command::Open(Digits { text: [] }) => f.write_str(name),
+            Command::Open(RingDigits { text: [] }) => f.write_str(name),
             Command::Open(ring) => write!(f, "{name} {ring}"),
             Command::Step | Command::Meters | Command::Close => f.write_str(name),
             Command::Steps(count) => write!(f, "{name} {count}"),

@@ -4,7 +4,7 @@ ghost use Rattle.std.specs.Option.{option_map};
 ghost use Rattle.cli.specs.Commands.{count, ring, letters};
 ghost use Rattle.std.specs.Str.{all_ascii_digits};
 
-use crate::command::Digits;
+use crate::command::RingDigits;
 use console::{NUMBER_END, read_number};
 
 // Whether a word has nothing but digits.
@@ -31,8 +31,8 @@ pub(crate) fn read_count(word: &[u8]) -> Option<usize>
 }
 
 // The ring that a word writes, if it writes one.
-pub(crate) fn read_ring(word: &[u8]) -> Option<Digits<'_>>
+pub(crate) fn read_ring(word: &[u8]) -> Option<RingDigits<'_>>
     ensures { option_map (λ d. letters d.text.now) result ≡ ring word.now }
 {
-    all_digits(word).then_some(Digits { text: word })
+    all_digits(word).then_some(RingDigits { text: word })
 }

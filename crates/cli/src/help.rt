@@ -1,6 +1,6 @@
 // The page of help.
 
-// What the program's commands are.
+/// The page of help: what the program's commands are, a line or two each.
 pub const USAGE: &str = "\
 usage: ringbench COMMAND
 

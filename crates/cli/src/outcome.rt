@@ -5,22 +5,24 @@ ghost use Rattle.cli.specs.Outcomes.{so, both, status};
 
 use std::process::ExitCode;
 
-// What was asked is done, or is so: a preset holds, two densities agree. Otherwise the program has said why not.
+/// What becomes of what was asked.
 #[derive(Clone, Copy, PartialEq, Eq, Debug)]
 pub enum Outcome {
+    /// It is done, or it is so: a preset holds, two densities agree.
     Done,
+    /// It is not, and the program has said why not.
     Undone,
 }
 
 impl Outcome {
-    // What becomes of a question, by whether it is so.
+    /// What becomes of a question, by whether it is so.
     pub fn so(is: bool) -> Outcome
         ensures { result ≡ so is }
     {
         if is { Outcome::Done } else { Outcome::Undone }
     }
 
-    // What becomes of two parts of what was asked.
+    /// What becomes of two parts of what was asked: they are done where each is.
     pub fn and(self, other: Outcome) -> Outcome
         ensures { result ≡ both self other }
     {
@@ -30,7 +32,7 @@ impl Outcome {
         }
     }
 
-    // The status that the program ends with.
+    /// The status that the program ends with: 0 where all is done, and else 1.
     pub fn status(self) -> ExitCode
         ensures { exit_status result ≡ status self }
     {

@@ -3,7 +3,7 @@ ghost use Rattle.std.specs.Prelude.{◌≡◌, Some};
 ghost use Rattle.cli.specs.Commands.{command_meant};
 ghost use Rattle.console.specs.Pages.{spaced};
 ghost use Rattle.report.specs.Texts.{rows_text};
-ghost use Rattle.cli.specs.Replies.{reply_to, reading_text, meters_row, arc_text, reply_text, ArcRight, MetersRight, ring_row, charge_text};
+ghost use Rattle.cli.specs.Replies.{reply_to, reading_text, meters_row, arc_text, reply_text, ArcRight, MetersRight, ring_row, charge_word, reading_words, charge_text};
 
 use crate::command::{Command, Verb};
 use automaton::ShownLetters;
@@ -14,25 +14,35 @@ use player::{Answer, ArcReading, Reading};
 use preset::Sent;
 use std::fmt;
 
-// What a command is answered. The meters are of each site of the ring that is open, and an arc has more sites than it
-// where it is long.
+/// What a command of a script is answered.
 #[derive(Clone, Copy)]
 pub enum Reply<'a, C> {
+    /// No ring is open, and the command needs one.
     NoRing,
+    /// A ring is open, and another is to be opened.
     RingOpen,
+    /// It is done.
     Done,
+    /// It is refused, by a code and a place.
     Refused(Fault),
+    /// The meters of a site.
     Site(Reading<C>),
+    /// The meters of each site of the ring that is open, by site.
     Meters(&'a [Reading<C>]),
+    /// The meters of an arc.
     Arc {
+        /// The meters.
         meters: ArcReading<C>,
+        /// Whether they account for the arc's charge: now = opening + in - out + touched.
         adds_up: bool,
     },
+    /// The arc has more sites than the ring.
     LongArc,
 }
 
 impl<'a, C: Charge> Reply<'a, C> {
-    // What a command of a sort is answered where it is one call.
+    /// What a command of a sort is answered where it is one call, by the answer of the player. No answer is given where
+    /// the call is not allowed: an open while a ring is open, and each other call while none is.
     pub fn to(verb: Verb, answer: Option<Answer<C>>) -> Reply<'a, C>
         ensures { result ≡ reply_to verb answer }
     {
@@ -45,7 +55,7 @@ impl<'a, C: Charge> Reply<'a, C> {
         }
     }
 
-    // What the meters are answered, by the readings of all sites of the ring that is open.
+    /// What the meters are answered, by the readings of all sites of the ring that is open: none where no ring is.
     pub fn meters(readings: &'a [Reading<C>]) -> Reply<'a, C>
         ensures { MetersRight readings.now result }
     {
@@ -55,7 +65,8 @@ impl<'a, C: Charge> Reply<'a, C> {
         Reply::Meters(readings)
     }
 
-    // What an arc of `len` sites from `site` on is answered, by the readings of all sites of the ring that is open.
+    /// What an arc of `len` sites from `site` on is answered, by the readings of all sites of the ring that is open:
+    /// none where no ring is. A site that is not on the ring is refused by [`Stop::BadPosition`], at place 0.
     pub fn arc(readings: &[Reading<C>], site: usize, len: usize) -> Reply<'a, C>
         ensures { ArcRight C.kind readings.now site len result }
     {
@@ -76,8 +87,8 @@ impl<'a, C: Charge> Reply<'a, C> {
 }
 
 // A charge as a word.
-fn word<C: Sent>(charge: C) -> EntryWord
-    ensures { result ≡ record { kind = C.sending.named; entry = C.sending.entry charge } }
+fn charge_word<C: Sent>(charge: C) -> EntryWord
+    ensures { result ≡ charge_word C.sending charge }
 {
     EntryWord {
         kind: C::kind(),
@@ -86,6 +97,18 @@ fn word<C: Sent>(charge: C) -> EntryWord
 }
 
 // The meters of a site as words.
+fn reading_words<C: Sent>(reading: Reading<C>) -> Reading<EntryWord>
+    ensures { result ≡ reading_words C.sending reading }
+{
+    Reading {
+        opening: charge_word(reading.opening),
+        crossed: charge_word(reading.crossed),
+        touched: charge_word(reading.touched),
+        now: charge_word(reading.now),
+    }
+}
+
+// The meters of a site as text.
 #[derive(Drop)]
 struct ReadingText<C> {
     reading: Reading<C>,
@@ -95,10 +118,12 @@ impl<C: Sent> fmt::Display for ReadingText<C> {
     ghost output = { λ r. Some (reading_text C.sending r.reading) };
 
     fn fmt<W: fmt::Write>(&self, f: &mut fmt::Formatter<W>) -> fmt::Result {
-        let opening = word(self.reading.opening);
-        let crossed = word(self.reading.crossed);
-        let touched = word(self.reading.touched);
-        let now = word(self.reading.now);
+        let Reading {
+            opening,
+            crossed,
+            touched,
+            now,
+        } = reading_words(self.reading);
         write!(
             f,
             "opening {opening}, crossed {crossed}, touched {touched}, now {now}"
@@ -118,10 +143,12 @@ impl<C: Sent> fmt::Display for MetersRow<C> {
 
     fn fmt<W: fmt::Write>(&self, f: &mut fmt::Formatter<W>) -> fmt::Result {
         let site = self.site;
-        let opening = word(self.reading.opening);
-        let crossed = word(self.reading.crossed);
-        let touched = word(self.reading.touched);
-        let now = word(self.reading.now);
+        let Reading {
+            opening,
+            crossed,
+            touched,
+            now,
+        } = reading_words(self.reading);
         writeln!(f, "{site}\t{opening}\t{crossed}\t{touched}\t{now}")
     }
 }
@@ -147,7 +174,7 @@ impl<C: Sent> fmt::Display for MetersRows<'_, C> {
     }
 }
 
-// The meters of an arc as words.
+// The meters of an arc as text.
 #[derive(Drop)]
 struct ArcText<C> {
     meters: ArcReading<C>,
@@ -157,11 +184,11 @@ impl<C: Sent> fmt::Display for ArcText<C> {
     ghost output = { λ a. Some (arc_text C.sending a.meters) };
 
     fn fmt<W: fmt::Write>(&self, f: &mut fmt::Formatter<W>) -> fmt::Result {
-        let opening = word(self.meters.opening);
-        let into = word(self.meters.into);
-        let out = word(self.meters.out);
-        let touched = word(self.meters.touched);
-        let now = word(self.meters.now);
+        let opening = charge_word(self.meters.opening);
+        let into = charge_word(self.meters.into);
+        let out = charge_word(self.meters.out);
+        let touched = charge_word(self.meters.touched);
+        let now = charge_word(self.meters.now);
         write!(
             f,
             "opening {opening}, in {into}, out {out}, touched {touched}, now {now}"
@@ -169,10 +196,17 @@ impl<C: Sent> fmt::Display for ArcText<C> {
     }
 }
 
-// A command, and what it is answered: a line, and for the meters a table below it.
+/// A command, and what it is answered: a line, and for the meters a table below it, a row for each site.
+///
+/// ```text
+/// read 2: opening 0, crossed 1, touched 0, now 1
+/// arc 2 2: opening 0, in 1, out 0, touched 0, now 1, adds up
+/// ```
 #[derive(Clone, Copy)]
 pub struct ReplyText<'c, 'r, C> {
+    /// The command.
     pub command: Command<'c>,
+    /// What it is answered.
     pub reply: Reply<'r, C>,
 }
 
@@ -211,10 +245,13 @@ impl<C: Sent> fmt::Display for ReplyText<'_, '_, C> {
     }
 }
 
-// A ring, and what has crossed into its sites, which may be left out.
+/// A ring as a line: its letters, a digit each, and a space before each of the charges that have crossed into its
+/// sites.
 #[derive(Clone, Copy)]
 pub struct RingRow<'a, C> {
+    /// The letters of the ring.
     pub cells: &'a [u8],
+    /// What has crossed into each site, or nothing where that is left out.
     pub crossed: &'a [C],
 }
 
@@ -243,8 +280,8 @@ impl<C: Sent> fmt::Display for Crossed<'_, C> {
 
     fn fmt<W: fmt::Write>(&self, f: &mut fmt::Formatter<W>) -> fmt::Result {
         for charge in self.charges {
-            let word = word(*charge);
-            write!(f, " {word}")?;
+            let charge = charge_word(*charge);
+            write!(f, " {charge}")?;
         }
         Ok(())
     }

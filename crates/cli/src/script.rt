@@ -1,25 +1,34 @@
 // A script as commands.
 ghost use Rattle.std.specs.Prelude.{◌≡◌, Some, Err, IfErr, map, vec_items};
+ghost use Rattle.console.specs.Results.{value_as, SameUnless};
 ghost use Rattle.cli.specs.Commands.{command_meant, some_command_meant, line_command};
-ghost use Rattle.cli.specs.Scripts.{numbered_of, at_line, script, scripted, Told, wanted_text, script_sentence};
+ghost use Rattle.cli.specs.Scripts.{numbered_of, at_line, script, wanted_text, script_sentence};
+ghost use Rattle.cli.specs.declared.script.ScriptError.TheVariants.{Memory};
 
 use crate::command::Command;
 use crate::line::{MOST_STEPS, Wanted, read_line};
-use crate::text_lines::{TextLines, NumberedLine};
+use crate::text_lines::{NumberedLine, TextLines};
 use std::alloc::Global;
 use std::error::Error;
 use std::fmt;
 
-// There is no memory, or a line is no command: its number, counted from 1, and what it should have.
+/// Why a script is not played. Its text is one sentence.
 #[derive(Clone, Copy, PartialEq, Eq, Debug)]
 pub enum ScriptError {
+    /// There is not enough memory.
     Memory,
-    Line { line: usize, wanted: Wanted },
+    /// A line is no command.
+    Line {
+        /// The line, counted from 1. Lines without words count too.
+        line: usize,
+        /// What it should have.
+        wanted: Wanted,
+    },
 }
 
 // The command that a numbered line is, unless it has no words.
 fn command_at(line: NumberedLine<'_>) -> Result<Option<Command<'_>>, ScriptError>
-    ensures { scripted some_command_meant result
+    ensures { value_as some_command_meant result
         ≡ at_line (numbered_of line.entry) (line_command line.entry.text.now) }
 {
     match read_line(line.text) {
@@ -31,11 +40,13 @@ fn command_at(line: NumberedLine<'_>) -> Result<Option<Command<'_>>, ScriptError
     }
 }
 
-// The commands of a script, or its first line that is none. A line that is wrong is told even where there is no memory.
+/// The commands of a script, one for each line that has words. Refuses a script by its first line that is no command,
+/// even where there is no memory.
 pub fn read_script(alloc: Global, text: &[u8]) -> Result<Vec<Command<'_>>, ScriptError>
-    ensures commands { Told (scripted (λ v. map command_meant (vec_items v)) result) (script text.now) }
+    ensures commands { SameUnless Memory
+        (value_as (λ v. map command_meant (vec_items v)) result) (script text.now) }
     ensures wrong { IfErr (script text.now)
-        (λ e. scripted (λ v. map command_meant (vec_items v)) result ≡ Err e) }
+        (λ e. value_as (λ v. map command_meant (vec_items v)) result ≡ Err e) }
 {
     let mut commands = Vec::new(alloc);
     let mut full = false;

@@ -1,4 +1,4 @@
-// LineWords of the arguments as they are shown.
+// Words of the arguments as they are shown.
 ghost use Rattle.std.specs.Prelude.{◌≡◌, ◌<◌, if◌then◌else◌, Some, None};
 ghost use Rattle.cli.specs.Commands.{lent_word};
 ghost use Rattle.cli.specs.ShownArguments.{is_utf8, no_controls, hex_digit, byte_text, bytes_text, shown_argument};
@@ -77,9 +77,11 @@ impl fmt::Display for ShownBytes<'_> {
     }
 }
 
-// A word or a name as it is shown in a line: as it is, or byte by byte where that would be no line of text.
+/// A word or a name as it is shown in a line: as it is, or byte by byte where it is no UTF-8 or has a control
+/// character. There, what is no printable sign of ASCII is `\x` and two digits. The empty word is shown as `''`.
 #[derive(Clone, Copy)]
 pub struct ShownArgument<'a> {
+    /// The bytes of the word.
     pub bytes: &'a [u8],
 }
 

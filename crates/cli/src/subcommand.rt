@@ -2,18 +2,26 @@
 ghost use Rattle.std.specs.Prelude.{◌≡◌};
 ghost use Rattle.cli.specs.Requests.{subcommand_text, named_subcommand};
 
-use crate::names::{Named, find_named};
+use console::{Named, find_named};
 
-// What sort of request the arguments are.
+/// What sort of request the arguments are, by the first word.
 #[derive(Clone, Copy, PartialEq, Eq, Debug)]
 pub enum Subcommand {
+    /// `help`.
     Help,
+    /// `show`.
     Show,
+    /// `encode`.
     Encode,
+    /// `judge`.
     Judge,
+    /// `crossings`.
     Crossings,
+    /// `compare`.
     Compare,
+    /// `play`.
     Play,
+    /// `run`.
     Run,
 }
 

@@ -24,16 +24,16 @@ pub(crate) struct TextLines<'a> {
 // Cuts a text after its first line, without the byte that ends it, if there is one.
 fn first_line(text: &[u8]) -> Option<Split<'_>>
     ensures lines { lines text.now ≡ cut_lines result }
-    ensures rest { IfSome result (λ s. length s.rest.now < length text.now) }
+    ensures shorter { IfSome result (λ s. length s.past.now < length text.now) }
 {
     if text.is_empty() {
         return None;
     }
     let line = cut(Class::NotNewline, text);
-    match line.rest {
-        [_, rest @ ..] => Some(Split {
-            front: line.front,
-            rest,
+    match line.past {
+        [_, past @ ..] => Some(Split {
+            leading: line.leading,
+            past,
         }),
         [] => Some(line),
     }
@@ -53,11 +53,11 @@ impl<'a> Iterator for TextLines<'a> {
         let number = self.passed + 1;
         *self = TextLines {
             passed: number,
-            text: line.rest,
+            text: line.past,
         };
         Some(NumberedLine {
             number,
-            text: line.front,
+            text: line.leading,
         })
     }
 }

@@ -5,9 +5,10 @@ ghost use Rattle.cli.specs.Told.{refusal_page, breaks_line, written_line};
 use fault::Fault;
 use std::fmt;
 
-// A refusal: its code and place, and below them the sentence that says them.
+/// A refusal in two lines: its code and place, and the sentence that says them.
 #[derive(Clone, Copy)]
 pub struct RefusalText {
+    /// The refusal.
     pub fault: Fault,
 }
 
@@ -22,9 +23,10 @@ impl fmt::Display for RefusalText {
     }
 }
 
-// A preset that is not played, since it does not hold.
+/// A line for a preset that is not played, since it does not hold.
 #[derive(Clone, Copy)]
 pub struct BreaksText<'a> {
+    /// The preset file.
     pub path: &'a str,
 }
 
@@ -37,10 +39,12 @@ impl fmt::Display for BreaksText<'_> {
     }
 }
 
-// A file that was written, and how many bytes it has.
+/// A line for a file that was written.
 #[derive(Clone, Copy)]
 pub struct WrittenText<'a> {
+    /// The file.
     pub path: &'a str,
+    /// How many bytes it has.
     pub bytes: usize,
 }
 

@@ -2,17 +2,21 @@
 ghost use Rattle.std.specs.Prelude.{Some};
 
 use crate::line::MOST_STEPS;
-use crate::names::Named;
 use crate::shown::ShownArgument;
+use console::Named;
 use std::error::Error;
 use std::fmt;
 
-// What a command is given.
+/// What a command is given after its name.
 #[derive(Clone, Copy, PartialEq, Eq, Debug)]
 pub enum Operand {
+    /// `TEXT`, a file.
     Text,
+    /// `PRESET`, a file.
     Preset,
+    /// `RING`, the letters of a ring, a digit each.
     Ring,
+    /// `STEPS`, a number.
     Steps,
 }
 
@@ -31,17 +35,26 @@ impl Named for Operand {
     }
 }
 
-// Why arguments ask nothing: the word that is wrong, or what is missing.
+/// Why arguments ask nothing: the word that is wrong, or what is missing. Its text is a sentence without its end.
 #[derive(Clone, Copy, PartialEq, Eq, Debug)]
 pub enum UsageError<'a> {
+    /// There are no arguments.
     NoCommand,
+    /// The first word names no command.
     UnknownCommand(&'a [u8]),
+    /// A word is an option, where none stands or another does.
     UnknownOption(&'a [u8]),
+    /// The arguments end before an operand.
     Missing(Operand),
+    /// A word follows the last operand.
     Surplus(&'a [u8]),
+    /// A word that should name a file is no UTF-8.
     NotText(&'a [u8]),
+    /// A word that should be a ring has more than digits.
     NotRing(&'a [u8]),
+    /// A word that should be a number of steps has more than digits, or nothing.
     NotSteps(&'a [u8]),
+    /// A number of steps is above [`MOST_STEPS`].
     ManySteps(&'a [u8]),
 }
 

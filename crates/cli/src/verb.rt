@@ -3,7 +3,7 @@ ghost use Rattle.std.specs.Prelude.{◌≡◌};
 ghost use Rattle.cli.specs.Commands.{verb_text, named_verb};
 
 use crate::command::Verb;
-use crate::names::{Named, find_named};
+use console::{Named, find_named};
 
 const VERBS: [Verb; 7] = [
     Verb::Open,

@@ -6,19 +6,19 @@ use Rattle.console.specs.Cutting.{blank, belongs, leading, past, with_first, fir
 use Rattle.console.specs.declared.cutting.Class.{Class}
 use Rattle.console.specs.declared.cutting.Class.TheVariants.{Blank, NotBlank}
 
--- a byte more of a leading, or the end of it
+-- a byte more in front, or the end of the front
 module _ (class : Class) (b : ℕ) (bs : List ℕ) where
-  pub front_more : belongs class b ≡ true → leading class (b ∷ bs) ≡ b ∷ leading class bs
-  front_more e = rw (e, one-add)
+  pub leading_more : belongs class b ≡ true → leading class (b ∷ bs) ≡ b ∷ leading class bs
+  leading_more e = rw (e, one-add)
 
-  pub after_more : belongs class b ≡ true → past class (b ∷ bs) ≡ past class bs
-  after_more e = rw (e, one-add)
+  pub past_more : belongs class b ≡ true → past class (b ∷ bs) ≡ past class bs
+  past_more e = rw (e, one-add)
 
-  pub front_ends : belongs class b ≡ false → leading class (b ∷ bs) ≡ []
-  front_ends e = rw e
+  pub leading_ends : belongs class b ≡ false → leading class (b ∷ bs) ≡ []
+  leading_ends e = rw e
 
-  pub after_ends : belongs class b ≡ false → past class (b ∷ bs) ≡ b ∷ bs
-  after_ends e = rw e
+  pub past_ends : belongs class b ≡ false → past class (b ∷ bs) ≡ b ∷ bs
+  past_ends e = rw e
 
 -- blanks before a line's words do not matter
 pub words-past-blank : (b : ℕ) (bs : List ℕ) → blank b ≡ true → words (b ∷ bs) ≡ words bs
@@ -29,8 +29,8 @@ pub words-past_blanks : (bs : List ℕ) → words bs ≡ words (past Blank bs)
 words-past_blanks [] = refl
 words-past_blanks (b ∷ bs) =
     ⊎_elim
-    (λ e. words-past-blank b bs e ∙ (words-past_blanks bs ∙ ap words (sym (after_more Blank b bs e))))
-    (λ e. ap words (sym (after_ends Blank b bs e)))
+    (λ e. words-past-blank b bs e ∙ (words-past_blanks bs ∙ ap words (sym (past_more Blank b bs e))))
+    (λ e. ap words (sym (past_ends Blank b bs e)))
     (cases_Bool (blank b))
 
 first_split : (bs : List ℕ) → first_and_others bs ≡ (leading NotBlank bs, words (past NotBlank bs))
@@ -38,8 +38,8 @@ unfolding words
 first_split [] = refl
 first_split (b ∷ bs) =
     ⊎_elim
-    (λ e. rw (e, front_ends NotBlank b bs (not_from_true (blank b) e), after_ends NotBlank b bs (not_from_true (blank b) e), e))
-    (λ e. rw (e, first_split bs, front_more NotBlank b bs (not_from_false (blank b) e), after_more NotBlank b bs (not_from_false (blank b) e), e))
+    (λ e. rw (e, leading_ends NotBlank b bs (not_from_true (blank b) e), past_ends NotBlank b bs (not_from_true (blank b) e), e))
+    (λ e. rw (e, first_split bs, leading_more NotBlank b bs (not_from_false (blank b) e), past_more NotBlank b bs (not_from_false (blank b) e), e))
     (cases_Bool (blank b))
 
 -- the first word, and the words past it
@@ -47,14 +47,14 @@ pub words_split : (bs : List ℕ) → words bs ≡ with_first (leading NotBlank 
 unfolding words
 words_split bs = words-past_blanks bs ∙ ap (λ (p : List ℕ × List (List ℕ)). with_first p.0 p.1) (first_split (past Blank bs))
 
--- an empty leading past the blanks is the end of the line
+-- an empty front past the blanks is the end of the line
 pub words_none : (bs : List ℕ) → length (leading NotBlank (past Blank bs)) ≡ 0 → words bs ≡ []
 unfolding words
 words_none [] h = refl
 words_none (b ∷ bs) h =
     ⊎_elim
-    (λ e. words-past-blank b bs e ∙ words_none bs (rw (after_more Blank b bs e) at h))
-    (λ e. let k = rw (after_ends Blank b bs e, front_more NotBlank b bs (not_from_false (blank b) e)) at h in absurd (omega arith))
+    (λ e. words-past-blank b bs e ∙ words_none bs (rw (past_more Blank b bs e) at h))
+    (λ e. let k = rw (past_ends Blank b bs e, leading_more NotBlank b bs (not_from_false (blank b) e)) at h in absurd (omega arith))
     (cases_Bool (blank b))
 
 with-first-some : (w : List ℕ) (ws : List (List ℕ)) → (length w ≡ 0 → ⊥) → with_first w ws ≡ w ∷ ws

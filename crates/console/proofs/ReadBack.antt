@@ -1,9 +1,9 @@
 -- What is written as a page is read as the same preset. Assumes nothing.
-use Rattle.std.proofs.Common.{◌≡◌, ℕ, suc, ◌+◌, ◌<◌, Bool, true, false, ◌&&◌, eqb, List, [], ◌∷◌, ◌++◌, map, length, get_or, ℤ, pos, negsuc, nat_abs, Some, Ok, decimal, Option, sym, refl, ap, ◌∙◌, ap₂, append_assoc, append-nil, arith, length-append}
+use Rattle.std.proofs.Common.{◌≡◌, ℕ, suc, ◌+◌, ◌<◌, ◌≤◌, Bool, true, false, ◌&&◌, eqb, ltb, List, [], ◌∷◌, ◌++◌, map, length, get_or, ℤ, pos, negsuc, nat_abs, Some, Ok, decimal, Option, sym, refl, ap, ◌∙◌, ap₂, append_assoc, append-nil, arith, length-append}
 use Rattle.std.proofs.lemmas.Fmt.{digits_decimal, digits_value-decimal, decimal_nonempty}
 use Rattle.std.proofs.lemmas.Slice.Eq.{bytes_eq-Decides}
 use Rattle.std.proofs.lemmas.Str.Parse.{IsNumeralModel, numerals_by_fold, tells_all_ascii_digits}
-use Rattle.std.proofs.lemmas.Bool.{true≢false, and_parts, not-true, ne_eqb, lt-ltb}
+use Rattle.std.proofs.lemmas.Bool.{true≢false, and_parts, not-true, ne_eqb, lt-ltb, ltb-true}
 use Rattle.std.proofs.lemmas.Bool.Decides.{nat_tests}
 use Rattle.std.specs.Char.{is_ascii_digit}
 use Rattle.std.specs.Fmt.{signed_decimal}
@@ -28,7 +28,7 @@ use Rattle.console.specs.declared.page_part.PagePart.{PagePart}
 use Rattle.console.specs.declared.page_part.PagePart.TheVariants.{Kind, Letters, Window, Reach, Width, Rule, Density, Bytes}
 use Rattle.console.specs.declared.cutting.Class.{Class}
 use Rattle.console.specs.declared.cutting.Class.TheVariants.{Blank, NotBlank, NotNewline, NotColon}
-use Rattle.console.proofs.Cuts.{front_more, after_more, front_ends, after_ends, words-past-blank, words-some}
+use Rattle.console.proofs.Cuts.{leading_more, past_more, leading_ends, past_ends, words-past-blank, words-some}
 use Rattle.console.proofs.Digits.{number-some, signed_plain}
 use Rattle.console.proofs.Reading.{row_is, word-is, value-is, ending-is}
 
@@ -40,37 +40,37 @@ pub of-append : (class : Class) (w v : List ℕ) → Of class w → Of class v �
 of-append class [] v h k = k
 of-append class (b ∷ w) v h k = (h.0, of-append class w v h.1 k)
 
--- such bytes are a leading, where another byte follows
+-- such bytes are the front, where another byte follows
 module _ (class : Class) (b : ℕ) (rest : List ℕ) (ends : belongs class b ≡ false) where
-  front_of : (w : List ℕ) → Of class w → leading class (w ++ (b ∷ rest)) ≡ w
-  front_of [] h = front_ends class b rest ends
-  front_of (x ∷ w) h = front_more class x (w ++ (b ∷ rest)) h.0 ∙ ap (λ (v : List ℕ). x ∷ v) (front_of w h.1)
+  leading_of : (w : List ℕ) → Of class w → leading class (w ++ (b ∷ rest)) ≡ w
+  leading_of [] h = leading_ends class b rest ends
+  leading_of (x ∷ w) h = leading_more class x (w ++ (b ∷ rest)) h.0 ∙ ap (λ (v : List ℕ). x ∷ v) (leading_of w h.1)
 
-  after_of : (w : List ℕ) → Of class w → past class (w ++ (b ∷ rest)) ≡ b ∷ rest
-  after_of [] h = after_ends class b rest ends
-  after_of (x ∷ w) h = after_more class x (w ++ (b ∷ rest)) h.0 ∙ after_of w h.1
+  past_of : (w : List ℕ) → Of class w → past class (w ++ (b ∷ rest)) ≡ b ∷ rest
+  past_of [] h = past_ends class b rest ends
+  past_of (x ∷ w) h = past_more class x (w ++ (b ∷ rest)) h.0 ∙ past_of w h.1
 
 -- and where nothing follows
-pub front_all : (class : Class) (w : List ℕ) → Of class w → leading class (w ++ []) ≡ w
-front_all class [] h = refl
-front_all class (x ∷ w) h = front_more class x (w ++ []) h.0 ∙ ap (λ (v : List ℕ). x ∷ v) (front_all class w h.1)
+pub leading_all : (class : Class) (w : List ℕ) → Of class w → leading class (w ++ []) ≡ w
+leading_all class [] h = refl
+leading_all class (x ∷ w) h = leading_more class x (w ++ []) h.0 ∙ ap (λ (v : List ℕ). x ∷ v) (leading_all class w h.1)
 
-after_all : (class : Class) (w : List ℕ) → Of class w → past class (w ++ []) ≡ []
-after_all class [] h = refl
-after_all class (x ∷ w) h = after_more class x (w ++ []) h.0 ∙ after_all class w h.1
+past_all : (class : Class) (w : List ℕ) → Of class w → past class (w ++ []) ≡ []
+past_all class [] h = refl
+past_all class (x ∷ w) h = past_more class x (w ++ []) h.0 ∙ past_all class w h.1
 
 -- nothing, or a blank
 abbrev pub Apart : List ℕ → Type 0
 Apart [] = Unit {0}
 Apart (b ∷ bs) = blank b ≡ true
 
-front_apart : (w rest : List ℕ) → Of NotBlank w → Apart rest → leading NotBlank (w ++ rest) ≡ w
-front_apart w [] h k = front_all NotBlank w h
-front_apart w (b ∷ rest) h k = front_of NotBlank b rest (rw k) w h
+leading_apart : (w rest : List ℕ) → Of NotBlank w → Apart rest → leading NotBlank (w ++ rest) ≡ w
+leading_apart w [] h k = leading_all NotBlank w h
+leading_apart w (b ∷ rest) h k = leading_of NotBlank b rest (rw k) w h
 
-after_apart : (w rest : List ℕ) → Of NotBlank w → Apart rest → past NotBlank (w ++ rest) ≡ rest
-after_apart w [] h k = after_all NotBlank w h
-after_apart w (b ∷ rest) h k = after_of NotBlank b rest (rw k) w h
+past_apart : (w rest : List ℕ) → Of NotBlank w → Apart rest → past NotBlank (w ++ rest) ≡ rest
+past_apart w [] h k = past_all NotBlank w h
+past_apart w (b ∷ rest) h k = past_of NotBlank b rest (rw k) w h
 
 -- a word: some bytes, none of them blank or the end of a line
 pub record Word (w : List ℕ) : Type 0 where
@@ -83,9 +83,9 @@ pub words-front : (w rest : List ℕ) → Word w → Apart rest → words (w ++ 
 words-front [] rest h k = absurd (omega (arith, h.some))
 words-front (x ∷ w) rest h k =
     let bs = x ∷ (w ++ rest) in
-    let s : past Blank bs ≡ bs = after_ends Blank x (w ++ rest) (not-true (blank x) h.unbroken.0) in
-    let f : leading NotBlank (past Blank bs) ≡ x ∷ w = ap (leading NotBlank) s ∙ front_apart (x ∷ w) rest h.unbroken k in
-    let a : past NotBlank (past Blank bs) ≡ rest = ap (past NotBlank) s ∙ after_apart (x ∷ w) rest h.unbroken k in
+    let s : past Blank bs ≡ bs = past_ends Blank x (w ++ rest) (not-true (blank x) h.unbroken.0) in
+    let f : leading NotBlank (past Blank bs) ≡ x ∷ w = ap (leading NotBlank) s ∙ leading_apart (x ∷ w) rest h.unbroken k in
+    let a : past NotBlank (past Blank bs) ≡ rest = ap (past NotBlank) s ∙ past_apart (x ∷ w) rest h.unbroken k in
     words-some bs (λ e. omega (arith, ap length f, e)) ∙ ap₂ (λ (v : List ℕ) (u : List ℕ). v ∷ words u) f a
 
 words-nil : words [] ≡ []
@@ -100,39 +100,59 @@ words_one w h = words-past-blank 32 w refl ∙ (ap words (sym (append-nil w)) �
 pub own : IsNumeralModel (λ ds. all_ascii_digits ds ≡ true) (value_after 0)
 own = numerals_by_fold (λ ds. all_ascii_digits ds ≡ true) tells_all_ascii_digits value_after (record { empty = λ n. refl; more = λ n c cs h. refl })
 
-digit_not-blank : (b : ℕ) → is_ascii_digit b ≡ true → belongs NotBlank b ≡ true
+-- the digits are of a class
+abbrev pub HasDigits : Class → Type 0
+HasDigits class = (b : ℕ) → is_ascii_digit b ≡ true → belongs class b ≡ true
+
+digit_not-blank : HasDigits NotBlank
 digit_not-blank b h = grind (arith, nat_tests)
 
-digit_not-newline : (b : ℕ) → is_ascii_digit b ≡ true → belongs NotNewline b ≡ true
+digit_not-newline : HasDigits NotNewline
 digit_not-newline b h = grind (arith, nat_tests)
 
-digit_not_colon : (b : ℕ) → is_ascii_digit b ≡ true → belongs NotColon b ≡ true
+digit_not_colon : HasDigits NotColon
 digit_not_colon b h = grind (arith, nat_tests)
 
-pub digits_of : (class : Class) → ((b : ℕ) → is_ascii_digit b ≡ true → belongs class b ≡ true) → (w : List ℕ) → all_ascii_digits w ≡ true → Of class w
+pub digits_of : (class : Class) → HasDigits class → (w : List ℕ) → all_ascii_digits w ≡ true → Of class w
 digits_of class each [] h = tt
 digits_of class each (b ∷ w) h = let p = and_parts (is_ascii_digit b) (all_ascii_digits w) h in (each b p.0, digits_of class each w p.1)
 
+-- a word of digits
+pub record Numeral (w : List ℕ) : Type 0 where
+  pub some : 0 < length w
+  pub all : all_ascii_digits w ≡ true
+
+pub numeral-word : (w : List ℕ) → Numeral w → Word w
+numeral-word w d = record { some = d.some; unbroken = digits_of NotBlank digit_not-blank w d.all; on_line = digits_of NotNewline digit_not-newline w d.all }
+
+module _ (v : ℕ) (fits : v ≤ number_end) where
+  pub decimal-numeral : Numeral (decimal v)
+  decimal-numeral = record { some = decimal_nonempty v (omega (arith, fits)); all = digits_decimal own v (omega (arith, fits)) }
+
+  pub decimal-some : eqb (length (decimal v)) 0 ≡ false
+  decimal-some = ne_eqb (length (decimal v)) 0 (λ e. omega (arith, e, decimal-numeral.some))
+
+  pub decimal-value : value_after 0 (decimal v) ≡ v
+  decimal-value = digits_value-decimal own v (omega (arith, fits))
+
 module _ (v : ℕ) (fits : v < number_end) where
-  decimal_of : (class : Class) → ((b : ℕ) → is_ascii_digit b ≡ true → belongs class b ≡ true) → Of class (decimal v)
-  decimal_of class each = digits_of class each (decimal v) (digits_decimal own v (omega arith))
+  decimal_of : (class : Class) → HasDigits class → Of class (decimal v)
+  decimal_of class each = digits_of class each (decimal v) (decimal-numeral v (omega arith)).all
 
   pub decimal-word : Word (decimal v)
-  decimal-word = record { some = decimal_nonempty v (omega arith); unbroken = decimal_of NotBlank digit_not-blank; on_line = decimal_of NotNewline digit_not-newline }
+  decimal-word = numeral-word (decimal v) (decimal-numeral v (omega arith))
 
   pub number-decimal : number (decimal v) ≡ Some v
   number-decimal =
-      let n = ne_eqb (length (decimal v)) 0 (λ e. omega (arith, e, decimal_nonempty v (omega arith))) in
-      let d = digits_decimal own v (omega arith) in
-      let e = digits_value-decimal own v (omega arith) in
-      number-some (decimal v) n ∙ rw (d, e, lt-ltb v number_end fits)
+      let below : v ≤ number_end = omega arith in
+      number-some (decimal v) (decimal-some v below) ∙ rw ((decimal-numeral v below).all, decimal-value v below, lt-ltb v number_end fits)
 
 -- signed numbers
 first_digit : (w : List ℕ) → 0 < length w → all_ascii_digits w ≡ true → get_or w 0 0 ≡ 45 → ⊥
 first_digit [] h d e = omega (arith, h)
 first_digit (b ∷ w) h d e = let p = and_parts (is_ascii_digit b) (all_ascii_digits w) d in let z : true ≡ false = sym p.0 ∙ ap is_ascii_digit e in absurd (true≢false z)
 
-module _ (class : Class) (each : (b : ℕ) → is_ascii_digit b ≡ true → belongs class b ≡ true) (minus : belongs class 45 ≡ true) where
+module _ (class : Class) (each : HasDigits class) (minus : belongs class 45 ≡ true) where
   signed_of : (z : ℤ) → nat_abs z < number_end → Of class (signed_decimal z)
   signed_of (pos n) h = decimal_of n h class each
   signed_of (negsuc n) h = (minus, decimal_of (suc n) h class each)
@@ -152,7 +172,7 @@ signed_number-signed (negsuc n) h = rw (number-decimal (suc n) h)
 pub letter-decimal : (v : ℕ) → v < 256 → letter (decimal v) ≡ Some v
 letter-decimal v h = rw (number-decimal v (omega arith), lt-ltb v 256 h)
 
-both_of : (class : Class) → ((b : ℕ) → is_ascii_digit b ≡ true → belongs class b ≡ true) → belongs class 45 ≡ true → belongs class 58 ≡ true → (e : Entry) → OfKind Both e → Of class (entry_text Both e)
+both_of : (class : Class) → HasDigits class → belongs class 45 ≡ true → belongs class 58 ≡ true → (e : Entry) → OfKind Both e → Of class (entry_text Both e)
 both_of class each minus colon e h = of-append class (signed_decimal e.signed) (58 ∷ decimal e.plain) (signed_of class each minus e.signed h.0) (colon, decimal_of e.plain h.1 class each)
 
 pub entry-word : (kind : ChargeKind) (e : Entry) → OfKind kind e → Word (entry_text kind e)
@@ -171,7 +191,7 @@ entry-reads Pitch e h = rw (number-decimal e.plain h.1) (ap (λ (z : ℤ). Some 
 entry-reads Channels e h = rw (number-decimal e.plain h.1) (ap (λ (z : ℤ). Some (record { signed = z; plain = e.plain })) (sym h.0))
 entry-reads Both e h =
     let s = signed_of NotColon digit_not_colon refl e.signed h.0 in
-    ap₂ halves (front_of NotColon 58 (decimal e.plain) refl (signed_decimal e.signed) s) (after_of NotColon 58 (decimal e.plain) refl (signed_decimal e.signed) s)
+    ap₂ halves (leading_of NotColon 58 (decimal e.plain) refl (signed_decimal e.signed) s) (past_of NotColon 58 (decimal e.plain) refl (signed_decimal e.signed) s)
     ∙ rw (signed_number-signed e.signed h.0, number-decimal e.plain h.1)
 
 -- a row of items
@@ -203,22 +223,32 @@ pub part_of : (class : Class) (w : List ℕ) → all_of class w ≡ true → Of 
 part_of class [] h = tt
 part_of class (b ∷ w) h = let p = and_parts (belongs class b) (all_of class w) h in (p.0, part_of class w p.1)
 
+-- what is a word, by a test that computes
+abbrev pub is_word : List ℕ → Bool
+is_word w = ltb 0 (length w) && (all_of NotBlank w && all_of NotNewline w)
+
+pub word_by : (w : List ℕ) → is_word w ≡ true → Word w
+word_by w h =
+    let p = and_parts (ltb 0 (length w)) (all_of NotBlank w && all_of NotNewline w) h in
+    let q = and_parts (all_of NotBlank w) (all_of NotNewline w) p.1 in
+    record { some = ltb-true 0 (length w) p.0; unbroken = part_of NotBlank w q.0; on_line = part_of NotNewline w q.1 }
+
 part-word : (part : PagePart) → Word (part_text part)
-part-word Kind = record { some = omega arith; unbroken = part_of NotBlank (part_text Kind) refl; on_line = part_of NotNewline (part_text Kind) refl }
-part-word Letters = record { some = omega arith; unbroken = part_of NotBlank (part_text Letters) refl; on_line = part_of NotNewline (part_text Letters) refl }
-part-word Window = record { some = omega arith; unbroken = part_of NotBlank (part_text Window) refl; on_line = part_of NotNewline (part_text Window) refl }
-part-word Reach = record { some = omega arith; unbroken = part_of NotBlank (part_text Reach) refl; on_line = part_of NotNewline (part_text Reach) refl }
-part-word Width = record { some = omega arith; unbroken = part_of NotBlank (part_text Width) refl; on_line = part_of NotNewline (part_text Width) refl }
-part-word Rule = record { some = omega arith; unbroken = part_of NotBlank (part_text Rule) refl; on_line = part_of NotNewline (part_text Rule) refl }
-part-word Density = record { some = omega arith; unbroken = part_of NotBlank (part_text Density) refl; on_line = part_of NotNewline (part_text Density) refl }
-part-word Bytes = record { some = omega arith; unbroken = part_of NotBlank (part_text Bytes) refl; on_line = part_of NotNewline (part_text Bytes) refl }
+part-word Kind = word_by (part_text Kind) refl
+part-word Letters = word_by (part_text Letters) refl
+part-word Window = word_by (part_text Window) refl
+part-word Reach = word_by (part_text Reach) refl
+part-word Width = word_by (part_text Width) refl
+part-word Rule = word_by (part_text Rule) refl
+part-word Density = word_by (part_text Density) refl
+part-word Bytes = word_by (part_text Bytes) refl
 
 -- the next word is the one that a text begins with
 word_first : (n : ℕ) (w rest : List ℕ) → Word w → next_word n (w ++ rest) ≡ record { passed = n; text = w ++ rest }
 word_first n [] rest h = absurd (omega (arith, h.some))
 word_first n (x ∷ w) rest h = rw (not-true (eqb x 10) h.on_line.0, not-true (blank x) h.unbroken.0)
 
--- the line of a part, at the text's leading
+-- the line of a part, in front of the text
 module _ (part : PagePart) (n : ℕ) (args rest : List ℕ) (on_line : Of NotNewline args) (apart : Apart args) where
   abbrev text : List ℕ
   text = part_text part ++ (args ++ (10 ∷ rest))
@@ -232,8 +262,8 @@ module _ (part : PagePart) (n : ℕ) (args rest : List ℕ) (on_line : Of NotNew
       let w = part-word part in
       let all = of-append NotNewline name args w.on_line on_line in
       let joins : text ≡ (name ++ args) ++ (10 ∷ rest) = sym (append_assoc name args (10 ∷ rest)) in
-      let f : leading NotNewline text ≡ name ++ args = ap (leading NotNewline) joins ∙ front_of NotNewline 10 rest refl (name ++ args) all in
-      let a : past NotNewline text ≡ 10 ∷ rest = ap (past NotNewline) joins ∙ after_of NotNewline 10 rest refl (name ++ args) all in
+      let f : leading NotNewline text ≡ name ++ args = ap (leading NotNewline) joins ∙ leading_of NotNewline 10 rest refl (name ++ args) all in
+      let a : past NotNewline text ≡ 10 ∷ rest = ap (past NotNewline) joins ∙ past_of NotNewline 10 rest refl (name ++ args) all in
       let has = ap words f ∙ words-front name args w apart in
       let some = ne_eqb (length text) 0 (λ e. omega (arith, e, w.some, length-append name (args ++ (10 ∷ rest)))) in
       let same = (bytes_eq-Decides name name).1 refl in
@@ -271,10 +301,10 @@ module _ (part : PagePart) (n : ℕ) (rest : List ℕ) where
 
 -- the line of the kind, which is the first
 kind-word : (kind : ChargeKind) → Word (kind_text kind)
-kind-word Voices = record { some = omega arith; unbroken = part_of NotBlank (kind_text Voices) refl; on_line = part_of NotNewline (kind_text Voices) refl }
-kind-word Pitch = record { some = omega arith; unbroken = part_of NotBlank (kind_text Pitch) refl; on_line = part_of NotNewline (kind_text Pitch) refl }
-kind-word Channels = record { some = omega arith; unbroken = part_of NotBlank (kind_text Channels) refl; on_line = part_of NotNewline (kind_text Channels) refl }
-kind-word Both = record { some = omega arith; unbroken = part_of NotBlank (kind_text Both) refl; on_line = part_of NotNewline (kind_text Both) refl }
+kind-word Voices = word_by (kind_text Voices) refl
+kind-word Pitch = word_by (kind_text Pitch) refl
+kind-word Channels = word_by (kind_text Channels) refl
+kind-word Both = word_by (kind_text Both) refl
 
 named_kind-text : (kind : ChargeKind) → named_kind (kind_text kind) ≡ Some kind
 named_kind-text Voices = refl

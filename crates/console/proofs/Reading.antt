@@ -6,7 +6,8 @@ use Rattle.std.specs.Str.{bytes_eq}
 use Rattle.fault.specs.Answers.{and_then}
 use Rattle.console.specs.Names.{part_text}
 use Rattle.console.specs.Places.{next_place}
-use Rattle.console.specs.Rows.{PageRow, TextReading, read, row_of, valued, named_row, row, only_word, word_row, value_row, number_row, each, text_end, ending}
+use Rattle.console.specs.Results.{value_as}
+use Rattle.console.specs.Rows.{PageRow, TextReading, row_of, valued, named_row, row, only_word, word_row, value_row, number_row, each, text_end, ending}
 use Rattle.console.specs.Cutting.{TextPlace, leading, past, words}
 use Rattle.console.specs.declared.error.Expected.{Expected}
 use Rattle.console.specs.declared.error.Expected.TheVariants.{Name, TextEnd}
@@ -29,7 +30,7 @@ then_ok f h = ap (λ s. and_then s f) h
 pub then_err : {X Y : Type 0} {e : TextError} {s : TextReading X} (f : X → TextReading Y) → Err e ≡ s → Err e ≡ and_then s f
 then_err f h = ap (λ s. and_then s f) h
 
--- the line of a part, from the next_place word on
+-- the line of a part, from the next word on
 module _ (part : PagePart) (place p : TextPlace) (is : p ≡ next_place place) where
   pub row-ended : eqb (length p.text) 0 ≡ true → row part place ≡ Err (Ended part)
   unfolding row
@@ -53,7 +54,7 @@ module _ (part : PagePart) (place p : TextPlace) (is : p ≡ next_place place) w
       pub row_is : bytes_eq w (part_text part) ≡ true → row part place ≡ Ok (record { value = ws; line = p.passed + 1; after = after_line })
       row_is e = row_named (w ∷ ws) has ∙ rw e
 
--- the only_word word of a line
+-- the only word of a line
 module _ (part : PagePart) (expected : Expected) (place : TextPlace) where
   pub word_stops : (e : TextError) → Err e ≡ row part place → Err e ≡ word_row part expected place
   unfolding word_row
@@ -82,7 +83,7 @@ module _ {X : Type 0} (reads : List ℕ → Option X) (part : PagePart) (expecte
 
   -- a row's word and what it stands for, if it stands for something
   pub value_with : (r : Row (Bor (List ℕ))) (value : Option X) → Ok (row_of (λ s. s.now) r) ≡ word_row part expected place → value ≡ reads r.value.now →
-      read (row_of (λ x. x)) (ok_or (option_map (λ x. record { value = x; line = r.line; after = r.after }) value) (Wrong r.line expected)) ≡ value_row reads part expected place
+      value_as (row_of (λ x. x)) (ok_or (option_map (λ x. record { value = x; line = r.line; after = r.after }) value) (Wrong r.line expected)) ≡ value_row reads part expected place
   value_with r None has h = value_wrong (row_of (λ s. s.now) r) has h
   value_with r (Some x) has h = value-is (row_of (λ s. s.now) r) has x h
 

@@ -14,6 +14,7 @@ newline = 10
 abbrev pub blank : ℕ → Bool
 blank b = b == 32 || (b == 9 || b == 13)
 
+-- the bytes of a class
 abbrev pub belongs : Class → ℕ → Bool
 belongs Blank b = blank b
 belongs NotBlank b = not (blank b)
@@ -21,7 +22,7 @@ belongs NotNewline b = not (b == newline)
 belongs NotColon b = not (b == 58)
 belongs NotHash b = not (b == 35)
 
--- the longest leading of a text whose bytes are all of a class, and the text past it
+-- the longest front of a text whose bytes are all of a class, and the text past it
 abbrev pub leading : Class → List ℕ → List ℕ
 leading class bs = take (prefix_len (belongs class) bs) bs
 
@@ -52,7 +53,7 @@ words_left ws = words ws.line.now
 -- the words of a line that was split past its first word, if it has one
 abbrev pub rejoined : Option Split → List (List ℕ)
 rejoined None = []
-rejoined (Some s) = s.front.now ∷ words s.rest.now
+rejoined (Some s) = s.leading.now ∷ words s.past.now
 
 -- A place in a text: how many lines end before it, and the text from there on.
 pub record TextPlace : Type 0 where

@@ -1,5 +1,6 @@
 -- How a page is turned into a preset's bytes. Assumes nothing.
-use Rattle.std.specs.Prelude.{◌≡◌, ℕ, ◌≤◌, cond, List, ◌++◌, length, Some, None, Ok, Err, codes, decimal, Option, Result, ◌==◌, ◌≢◌}
+use Rattle.std.specs.Prelude.{◌≡◌, ℕ, ◌≤◌, cond, List, ◌++◌, length, Some, None, Ok, Err, codes, decimal, Option, Result, ◌==◌}
+use Rattle.std.specs.Result.{result_map_both}
 use Rattle.fault.specs.Limits.{most_window, most_width}
 use Rattle.fault.specs.declared.Fault.{Fault}
 use Rattle.fault.specs.Refusals.{Refusal, refusal, reason_of, sentence as fault-sentence}
@@ -10,7 +11,7 @@ use Rattle.preset.specs.Writes.{preset_to_write, preset_bytes, with_byte_room}
 use Rattle.console.specs.Errors.{text_sentence}
 use Rattle.console.specs.Grammar.{Content, parsed}
 use Rattle.console.specs.Refusals.{refused_line}
-use Rattle.console.specs.Rows.{TextReading}
+use Rattle.console.specs.Results.{error_as}
 use Rattle.console.specs.Shows.{page_shown}
 use Rattle.console.specs.declared.encode.EncodeError.{EncodeError}
 use Rattle.console.specs.declared.encode.EncodeError.TheVariants.{Text, Letters, Entries, Refused}
@@ -41,21 +42,15 @@ problem (Refused lines f) = refused lines (refusal f)
 
 -- an answer by what its value stands for
 abbrev pub answered : {X Y : Type 0} → (X → Y) → Result X EncodeError → Encoding Y
-answered f (Ok x) = Ok (f x)
-answered f (Err e) = Err (problem e)
+answered f r = result_map_both f problem r
 
--- an answer is as defined, unless there is no memory
-abbrev pub Answered : {X : Type 0} → Encoding X → Encoding X → Type 0
-Answered r s = (r ≢ Err (text Memory)) → r ≡ s
+-- there is no memory
+abbrev pub no_memory : Problem
+no_memory = text Memory
 
--- an error of the text, and a refusal of the writer
-abbrev pub from_text : {X : Type 0} → TextReading X → Encoding X
-from_text (Ok x) = Ok x
-from_text (Err e) = Err (text e)
-
+-- an answer of the writer, with the lines of the page by its refusal
 abbrev pub from_writer : {X : Type 0} → PartLines → Result X Refusal → Encoding X
-from_writer lines (Ok x) = Ok x
-from_writer lines (Err f) = Err (refused lines f)
+from_writer lines r = error_as (refused lines) r
 
 -- the count that a header asks for, if it counts and there are not so many
 abbrev pub miscounted : Option ℕ → ℕ → Option ℕ
@@ -79,9 +74,9 @@ bytes_of d =
 
 -- the bytes of the preset that a text writes
 abbrev pub encoded : List ℕ → Encoding (List ℕ)
-encoded bs = and_then (from_text (parsed bs)) bytes_of
+encoded bs = and_then (error_as text (parsed bs)) bytes_of
 
--- what is page_shown of a preset is encoded as its bytes again
+-- what is shown of a preset is encoded as its bytes again
 abbrev pub ShownEncodesBack : Type 0
 ShownEncodesBack =
     (bs page : List ℕ) → Bytes bs → length bs ≤ most_preset → page_shown bs ≡ Ok page → encoded page ≡ Ok bs

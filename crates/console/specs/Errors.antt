@@ -18,13 +18,13 @@ expected_text Entry = codes "an entry of the kind"
 expected_text LineEnd = codes "the end of the line"
 expected_text TextEnd = codes "the end of the text"
 
--- an error in one text_sentence
+-- an error in one sentence
 abbrev pub text_sentence : TextError → List ℕ
 text_sentence Memory = codes "There is not enough memory."
 text_sentence (Ended part) = codes "The text ends where the line " ++ (part_text part ++ codes " is due.")
 text_sentence (Wrong line expected) = codes "Line " ++ (decimal line ++ (codes ": expected " ++ (expected_text expected ++ codes ".")))
 
--- why a preset is not told of, in one text_sentence
+-- why a preset is not shown, in one sentence
 abbrev pub show_sentence : ShowError → List ℕ
 show_sentence no.Memory = codes "There is not enough memory."
 show_sentence (no.Refused fault) = fault-sentence fault

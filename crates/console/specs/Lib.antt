@@ -8,6 +8,7 @@ pub mod Pages
 pub mod Places
 pub mod ReadBack
 pub mod Refusals
+pub mod Results
 pub mod Rows
 pub mod Shows
 pub mod Cutting

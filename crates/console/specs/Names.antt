@@ -1,10 +1,15 @@
--- The words of a page: the parts of a preset and the kinds of charge by name. Assumes nothing.
-use Rattle.std.specs.Prelude.{ℕ, cond, List, Some, None, codes, Option}
+-- Things that a word names: the parts of a page and the kinds of charge. Assumes nothing.
+use Rattle.std.specs.Prelude.{ℕ, cond, List, [], ◌∷◌, Some, None, codes, Option}
 use Rattle.std.specs.Str.{bytes_eq}
 use Rattle.charge.specs.declared.kind.ChargeKind.{ChargeKind}
 use Rattle.charge.specs.declared.kind.ChargeKind.TheVariants as kind
 use Rattle.console.specs.declared.page_part.PagePart.{PagePart}
 use Rattle.console.specs.declared.page_part.PagePart.TheVariants.{Kind, Letters, Window, Reach, Width, Rule, Density, Bytes}
+
+-- the first of some things whose name is a word
+abbrev pub named : {X : Type 0} → (X → List ℕ) → List X → List ℕ → Option X
+named text [] w = None
+named text (x ∷ xs) w = cond (bytes_eq w (text x)) (Some x) (named text xs w)
 
 abbrev pub kind_text : ChargeKind → List ℕ
 kind_text kind.Voices = codes "voices"
@@ -14,11 +19,7 @@ kind_text kind.Both = codes "both"
 
 -- the kind of a name
 abbrev pub named_kind : List ℕ → Option ChargeKind
-named_kind w =
-    cond (bytes_eq w (kind_text kind.Voices)) (Some kind.Voices)
-    (cond (bytes_eq w (kind_text kind.Pitch)) (Some kind.Pitch)
-    (cond (bytes_eq w (kind_text kind.Channels)) (Some kind.Channels)
-    (cond (bytes_eq w (kind_text kind.Both)) (Some kind.Both) None)))
+named_kind = named kind_text (kind.Voices ∷ kind.Pitch ∷ kind.Channels ∷ kind.Both ∷ [])
 
 -- each part stands on a line of its own, which begins with the part's name
 abbrev pub part_text : PagePart → List ℕ

@@ -1,5 +1,5 @@
 -- The lines of a page, each with one part of a preset. Assumes nothing.
-use Rattle.std.specs.Prelude.{◌≡◌, ℕ, ◌+◌, cond, List, [], ◌∷◌, length, Ok, Err, Option, Result, ◌==◌, ◌≢◌}
+use Rattle.std.specs.Prelude.{ℕ, ◌+◌, cond, List, [], ◌∷◌, length, Ok, Err, Option, Result, ◌==◌}
 use Rattle.std.specs.Option.{ok_or}
 use Rattle.std.specs.Str.{bytes_eq}
 use Rattle.fault.specs.Answers.{and_then}
@@ -10,7 +10,7 @@ use Rattle.console.specs.Cutting.{TextPlace, leading, past, words}
 use Rattle.console.specs.declared.error.Expected.{Expected}
 use Rattle.console.specs.declared.error.Expected.TheVariants.{Name, Kind, Number, LineEnd, TextEnd}
 use Rattle.console.specs.declared.error.TextError.{TextError}
-use Rattle.console.specs.declared.error.TextError.TheVariants.{Memory, Ended, Wrong}
+use Rattle.console.specs.declared.error.TextError.TheVariants.{Ended, Wrong}
 use Rattle.console.specs.declared.page_part.PagePart.{PagePart}
 use Rattle.console.specs.declared.page_part.PagePart.TheVariants as part
 use Rattle.console.specs.declared.row.Row.{Row}
@@ -26,17 +26,9 @@ pub record PageRow (X : Type 0) : Type 0 where
 abbrev pub TextReading : Type 0 → Type 0
 TextReading X = Result X TextError
 
--- a reader's answer as plain numbers and lists, by what its value stands for
-abbrev pub read : {X Y : Type 0} → (X → Y) → TextReading X → TextReading Y
-read f (Ok x) = Ok (f x)
-read f (Err e) = Err e
-
+-- a row by what its value stands for, with the place past it as plain numbers
 abbrev pub row_of : {X Y : Type 0} → (X → Y) → Row X → PageRow Y
 row_of f r = record { value = f r.value; line = r.line; after = place_meant r.after }
-
--- an answer is as defined, unless there is no memory
-abbrev pub Told : {X : Type 0} → TextReading X → TextReading X → Type 0
-Told r s = (r ≢ Err Memory) → r ≡ s
 
 abbrev pub valued : {X Y : Type 0} → PageRow X → Y → PageRow Y
 valued r y = record { value = y; line = r.line; after = r.after }
@@ -52,11 +44,11 @@ named_at part p =
     (Err (Ended part))
     (named_row part (p.passed + 1) (record { passed = p.passed; text = past NotNewline p.text }) (words (leading NotNewline p.text)))
 
--- the line of a part is the next_place that has a word, and begins with the part's name
+-- the line of a part is the next that has a word, and begins with the part's name
 unfoldable pub row : PagePart → TextPlace → TextReading (PageRow (List (List ℕ)))
 row part place = named_at part (next_place place)
 
--- the only_word word
+-- the only word
 abbrev pub only_word : Expected → ℕ → List (List ℕ) → TextReading (List ℕ)
 only_word expected line [] = Err (Wrong line expected)
 only_word expected line (w ∷ []) = Ok w

@@ -1,4 +1,4 @@
--- What is page_shown of a preset's bytes. Assumes nothing.
+-- What is shown of a preset's bytes. Assumes nothing.
 use Rattle.std.specs.Prelude.{ℕ, List, length, Some, None, Ok, Err, Option, Result}
 use Rattle.fault.specs.declared.Fault.{Fault}
 use Rattle.fault.specs.Refusals.{Refusal, refusal}
@@ -15,11 +15,6 @@ page_of bytes p = page_text p.head.kind p.head.header p.letters p.entries bytes
 -- the page of the preset that the bytes are, or its refusal
 abbrev pub page_shown : List ℕ → Result (List ℕ) Refusal
 page_shown bs = and_then (whole_preset bs) (λ p. Ok (page_of (length bs) p))
-
--- an answer by what its value stands for, and by the numbers of its refusal
-abbrev pub told : {X Y : Type 0} → (X → Y) → Result X Fault → Result Y Refusal
-told f (Ok x) = Ok (f x)
-told f (Err e) = Err (refusal e)
 
 -- an answer, unless there was no memory for it
 abbrev pub unless_memory : {X : Type 0} → Result X ShowError → Option (Result X Fault)

@@ -5,13 +5,19 @@ ghost use Rattle.std.specs.List.{prefix_len};
 ghost use Rattle.std.specs.Str.{bytes_eq};
 ghost use Rattle.console.specs.Cutting.{blank, belongs, leading, past, words as words_of, words_left, rejoined};
 
-// Which bytes a front of a text may have. An enum and no closure, since a clause can say which bytes belong to it.
+/// Which bytes the front that [`cut`] cuts off may have. An enum and no closure, since a clause can say which bytes
+/// belong to it.
 #[derive(Clone, Copy)]
 pub enum Class {
+    /// A space, a tab or a carriage return.
     Blank,
+    /// Any other byte, the end of a line among them.
     NotBlank,
+    /// Any byte but the one that ends a line.
     NotNewline,
+    /// Any byte but `:`.
     NotColon,
+    /// Any byte but `#`.
     NotHash,
 }
 
@@ -36,30 +42,37 @@ impl Class {
     }
 }
 
-// A front of a text, and what comes after it.
+/// A front of a text, and what comes after it.
 #[derive(Clone, Copy)]
 pub struct Split<'a> {
-    pub front: &'a [u8],
-    pub rest: &'a [u8],
+    /// The front, which may be empty.
+    pub leading: &'a [u8],
+    /// What comes after it, which may be empty.
+    pub past: &'a [u8],
 }
 
 // How many bytes at the front are of the class.
-fn front_len(class: Class, text: &[u8]) -> usize
+fn leading_len(class: Class, text: &[u8]) -> usize
     ensures { result ≡ prefix_len (belongs class) text.now }
 {
     text.iter().take_while(|byte| class.has(**byte)).count()
 }
 
-// Cuts a text after the longest front whose bytes are all of the class.
+/// Cuts a text after the longest front whose bytes are all of the class.
+///
+/// ```text
+/// cut(Class::NotColon, b"3:11")    leading: b"3", past: b":11"
+/// cut(Class::NotColon, b"3")       leading: b"3", past: b""
+/// ```
 pub fn cut(class: Class, text: &[u8]) -> Split<'_>
-    ensures front { result.front.now ≡ leading class text.now }
-    ensures rest { result.rest.now ≡ past class text.now }
+    ensures leading { result.leading.now ≡ leading class text.now }
+    ensures past { result.past.now ≡ past class text.now }
 {
-    let (front, rest) = text.split_at(front_len(class, text));
-    Split { front, rest }
+    let (leading, past) = text.split_at(leading_len(class, text));
+    Split { leading, past }
 }
 
-// Whether a word is a text.
+/// Whether a word has the bytes of a text, and no others.
 pub fn is_text(word: &[u8], text: &str) -> bool
     ensures { result ≡ bytes_eq word.now text.now }
 {
@@ -69,19 +82,20 @@ pub fn is_text(word: &[u8], text: &str) -> bool
 // Cuts a line after its first word, if it has one.
 fn first_word(line: &[u8]) -> Option<Split<'_>>
     ensures words { words_of line.now ≡ rejoined result }
-    ensures rest { IfSome result (λ s. length s.rest.now < length line.now) }
+    ensures shorter { IfSome result (λ s. length s.past.now < length line.now) }
 {
-    let word = cut(Class::NotBlank, cut(Class::Blank, line).rest);
-    if word.front.is_empty() {
+    let word = cut(Class::NotBlank, cut(Class::Blank, line).past);
+    if word.leading.is_empty() {
         None
     } else {
         Some(word)
     }
 }
 
-// The words of a line, one after another: the line from the next word on.
+/// The words of a line, one after another: bytes that are not blank, which blanks keep apart ([`Class::Blank`]).
 #[derive(Clone, Copy)]
 pub struct LineWords<'a> {
+    /// What is left of the line.
     pub line: &'a [u8],
 }
 
@@ -94,7 +108,7 @@ impl<'a> Iterator for LineWords<'a> {
 
     fn next(&mut self) -> Option<&'a [u8]> {
         let word = first_word(self.line)?;
-        self.line = word.rest;
-        Some(word.front)
+        self.line = word.past;
+        Some(word.leading)
     }
 }

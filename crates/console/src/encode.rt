@@ -1,17 +1,18 @@
 // A page turned into a preset's bytes.
 ghost use Rattle.std.specs.Prelude.{◌≡◌, ◌≢◌, ◌≤◌, Some, None, Err, IfSome, IfErr, MatchBool, MatchResult, OnSome, filter_map, length, vec_items};
 ghost use Rattle.preset.specs.Writes.{writing};
-ghost use Rattle.console.specs.Encodes.{most_preset, answered, Answered, from_writer, miscounted, bytes_of, encoded, encode_sentence};
+ghost use Rattle.console.specs.Encodes.{most_preset, answered, no_memory, from_writer, miscounted, bytes_of, encoded, encode_sentence};
+ghost use Rattle.console.specs.Results.{SameUnless};
 ghost use Rattle.console.specs.Grammar.{outlined};
 ghost use Rattle.console.specs.Cutting.{words_left};
 ghost use Rattle.console.specs.declared.encode.EncodeError.TheVariants.{Text};
 ghost use Rattle.console.specs.declared.error.TextError.TheVariants.{Memory};
 
+use crate::cutting::LineWords;
 use crate::error::TextError;
 use crate::item::PageItem;
-use crate::part_lines::{PartLines, line_of_refusal};
 use crate::outline::{Outline, read_outline};
-use crate::cutting::LineWords;
+use crate::part_lines::{PartLines, line_of_refusal};
 use charge::ChargeKind;
 use fault::Fault;
 use preset::{Entry, Header, STRIP, write_preset};
@@ -22,14 +23,32 @@ use std::fmt;
 // No preset takes more bytes than this.
 const MOST_PRESET: usize = 32768;
 
-// Why a page gives no preset: the text is no page, the line of the rule or of the density has another count of
-// items than the header asks, or the writer refuses what the page holds.
+/// Why a page gives no preset, or that there is no memory. Its text is one sentence.
 #[derive(Clone, Copy, PartialEq, Eq, Debug)]
 pub enum EncodeError {
+    /// The text is no page, or there is no memory.
     Text(TextError),
-    Letters { line: usize, count: usize },
-    Entries { line: usize, count: usize },
-    Refused { lines: PartLines, fault: Fault },
+    /// The rule has another count of letters than the header asks.
+    Letters {
+        /// The line of the rule, counted from 1.
+        line: usize,
+        /// How many letters the header asks: the alphabet size to the power of the window.
+        count: usize,
+    },
+    /// The density has another count of entries than the header asks.
+    Entries {
+        /// The line of the density, counted from 1.
+        line: usize,
+        /// How many entries the header asks: the alphabet size to the power of the width.
+        count: usize,
+    },
+    /// The preset writer refuses what the page holds.
+    Refused {
+        /// The lines of the page, by which the refusal is told.
+        lines: PartLines,
+        /// The refusal, as `preset::write_preset` gives it.
+        fault: Fault,
+    },
 }
 
 // Fills a strip with the items that words write, and answers whether there are as many as it is long.
@@ -131,10 +150,18 @@ fn encode_outline<'o>(page: Outline<'_>, out: &'o mut [u8]) -> Result<&'o [u8], 
     write_front(header, letters, entries, lines, out)
 }
 
-// The bytes of the preset that a text writes. They are written to the stack first, so that no more is taken from the
-// heap than they take, and nothing where there is no preset.
+/// The bytes of the preset that a page writes, at most 32,768. They are written to the stack first, so that no more is
+/// taken from the heap than they take, and nothing where there is no preset.
+///
+/// Refuses in this order: what is wrong with the text, a count of letters that is not the header's, such a count of
+/// entries, and what `preset::write_preset` refuses. The line `bytes` may be left out, and its number is not used.
+///
+/// ```text
+/// "kind voices\nletters 2\nwindow 1\nreach 0\nwidth 1\nrule 0 1\ndensity 0 1\n"
+///     the bytes 0 2 1 0 1 0 1 0 2
+/// ```
 pub fn encode_page(alloc: Global, text: &[u8]) -> Result<Vec<u8>, EncodeError>
-    ensures bytes { Answered (answered vec_items result) (encoded text.now) }
+    ensures bytes { SameUnless no_memory (answered vec_items result) (encoded text.now) }
     // No memory is needed to tell why a text gives no preset.
     ensures wrong { IfErr (encoded text.now) (λ e. answered vec_items result ≡ Err e) }
 {

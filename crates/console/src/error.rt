@@ -3,20 +3,28 @@ ghost use Rattle.console.specs.Errors.{expected_text, text_sentence};
 ghost use Rattle.std.specs.Prelude.{◌≡◌, Some};
 ghost use Rattle.console.specs.declared.error.TextError.TheVariants.{Memory};
 
+use crate::names::Named;
 use crate::page_part::PagePart;
 use std::alloc::{AllocError, AllocFailed};
 use std::error::Error;
 use std::fmt;
 
-// What should stand in place of what was read.
+/// What should stand in place of what was read. Its text goes on a sentence: `the word rule`, `a number`.
 #[derive(Clone, Copy, PartialEq, Eq, Debug)]
 pub enum Expected {
+    /// The name of the part that is due.
     Name(PagePart),
+    /// The name of a kind of charge.
     Kind,
+    /// A number of decimal digits, below [`crate::NUMBER_END`].
     Number,
+    /// A letter, from 0 to 255.
     Letter,
+    /// An entry of the page's kind of charge.
     Entry,
+    /// Nothing more on the line.
     LineEnd,
+    /// No line more that has words.
     TextEnd,
 }
 
@@ -39,12 +47,23 @@ impl fmt::Display for Expected {
     }
 }
 
-// There is no memory, the text ends where a part is due, or a line is wrong. PartLines are counted from 1.
+/// Why a text is no page, or that there is no memory. Its text is one sentence.
 #[derive(Clone, Copy, PartialEq, Eq, Debug)]
 pub enum TextError {
+    /// There is not enough memory.
     Memory,
-    Ended { due: PagePart },
-    Wrong { line: usize, expected: Expected },
+    /// The text ends where a part is due.
+    Ended {
+        /// The part.
+        due: PagePart,
+    },
+    /// A line has something else than it should.
+    Wrong {
+        /// The line, counted from 1. Lines without words count too.
+        line: usize,
+        /// What it should have.
+        expected: Expected,
+    },
 }
 
 impl fmt::Display for TextError {

@@ -8,10 +8,12 @@ use std::alloc::AllocError;
 use std::error::Error;
 use std::fmt;
 
-// There is no memory, or the bytes are refused as a preset.
+/// Why a preset is not shown. Its text is one sentence.
 #[derive(Clone, Copy, PartialEq, Eq, Debug)]
 pub enum ShowError {
+    /// There is not enough memory.
     Memory,
+    /// The bytes are refused as a preset, as `preset::read_whole` refuses them.
     Refused(Fault),
 }
 

@@ -4,9 +4,9 @@ ghost use Rattle.charge.specs.declared.kind.ChargeKind.TheVariants.{Both};
 ghost use Rattle.console.specs.Forms.{Form, letter_form, entry_form, entry_text, paired};
 ghost use Rattle.console.specs.Forms.{entry as entry_of};
 
+use crate::cutting::{Class, cut};
 use crate::error::Expected;
 use crate::number::{read_number, read_signed};
-use crate::cutting::{Class, cut};
 use charge::ChargeKind;
 use preset::Entry;
 use std::alloc::AllocError;
@@ -60,16 +60,19 @@ fn read_both(word: &[u8]) -> Option<Entry>
     ensures { result ≡ entry_of Both word.now }
 {
     let parts = cut(Class::NotColon, word);
-    match parts.rest {
-        [_, plain @ ..] => pair(read_signed(parts.front), read_number(plain)),
+    match parts.past {
+        [_, plain @ ..] => pair(read_signed(parts.leading), read_number(plain)),
         [] => None,
     }
 }
 
-// An entry of a kind, which is shown as a word of a page.
+/// An entry of a kind of charge, which is shown as a word of a page: `-3` in voices, `7` in pitch or channels, `-3:7`
+/// in both. A part that the kind does not have is not shown.
 #[derive(Clone, Copy, PartialEq, Eq, Debug)]
 pub struct EntryWord {
+    /// The kind of charge.
     pub kind: ChargeKind,
+    /// The entry.
     pub entry: Entry,
 }
 

@@ -2,7 +2,7 @@
 ghost use Rattle.std.specs.Prelude.{◌≡◌};
 ghost use Rattle.console.specs.Names.{kind_text, named_kind};
 
-use crate::cutting::is_text;
+use crate::names::{Named, find_named};
 use charge::ChargeKind;
 
 const KINDS: [ChargeKind; 4] = [
@@ -12,23 +12,29 @@ const KINDS: [ChargeKind; 4] = [
     ChargeKind::Both,
 ];
 
-// The name of a kind. No `Display` in `charge`, since a page is read by comparing the names as bytes.
-pub fn kind_name(kind: ChargeKind) -> &'static str
-    ensures { result.now ≡ kind_text kind }
-{
-    match kind {
-        ChargeKind::Voices => "voices",
-        ChargeKind::Pitch => "pitch",
-        ChargeKind::Channels => "channels",
-        ChargeKind::Both => "both",
+impl Named for ChargeKind {
+    ghost text = { kind_text };
+
+    fn name(self) -> &'static str {
+        match self {
+            ChargeKind::Voices => "voices",
+            ChargeKind::Pitch => "pitch",
+            ChargeKind::Channels => "channels",
+            ChargeKind::Both => "both",
+        }
     }
 }
 
-// The kind that has a name, if any has.
+/// The name of a kind of charge: `voices`, `pitch`, `channels` or `both`.
+pub fn kind_name(kind: ChargeKind) -> &'static str
+    ensures { result.now ≡ kind_text kind }
+{
+    kind.name()
+}
+
+/// The kind of charge that a word names, if it names one.
 pub fn kind_named(word: &[u8]) -> Option<ChargeKind>
     ensures { result ≡ named_kind word.now }
 {
-    KINDS
-        .into_iter()
-        .find(|kind| is_text(word, kind_name(*kind)))
+    find_named(&KINDS, word)
 }

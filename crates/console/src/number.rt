@@ -2,7 +2,7 @@
 ghost use Rattle.std.specs.Prelude.{◌≡◌, ◌<◌, IfSome};
 ghost use Rattle.console.specs.Numbers.{number_end, with_digit, number, signed_number};
 
-// A number is below this.
+/// The numbers of a text are below this, 2^63.
 pub const NUMBER_END: u64 = 1 << 63;
 
 // A value with one digit more, if the byte is a digit and the number stays below the end.
@@ -17,7 +17,8 @@ fn with_digit(value: u64, byte: u8) -> Option<u64>
     (longer < NUMBER_END).then_some(longer)
 }
 
-// The number that a word writes, if it writes one.
+/// The number that a word writes: one decimal digit or more and nothing else, whose value is below [`NUMBER_END`].
+/// Leading zeros are allowed, and a sign is not.
 pub fn read_number(word: &[u8]) -> Option<u64>
     ensures value { result ≡ number word.now }
     ensures bound { IfSome result (λ v. v < number_end) }

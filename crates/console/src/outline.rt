@@ -3,17 +3,18 @@ ghost use Rattle.std.specs.Prelude.{◌≡◌, filter_map};
 ghost use Rattle.std.specs.Option.{ok_or};
 ghost use Rattle.console.specs.Grammar.{outlined, parsed};
 ghost use Rattle.console.specs.Places.{place_meant};
-ghost use Rattle.console.specs.Rows.{read, row_of, each, items_row};
+ghost use Rattle.console.specs.Results.{value_as};
+ghost use Rattle.console.specs.Rows.{row_of, each, items_row};
 ghost use Rattle.console.specs.Cutting.{words_left};
 ghost use Rattle.console.specs.declared.error.TextError.TheVariants.{Wrong};
 
+use crate::cutting::LineWords;
 use crate::error::TextError;
 use crate::item::PageItem;
-use crate::part_lines::PartLines;
 use crate::page_part::PagePart;
+use crate::part_lines::PartLines;
 use crate::place::Place;
 use crate::row::{Row, read_end, read_kind_row, read_number_row, read_row};
-use crate::cutting::LineWords;
 use charge::ChargeKind;
 use preset::{Entry, Header};
 
@@ -39,9 +40,13 @@ fn read_item<T: PageItem>(kind: ChargeKind, line: usize, word: &[u8]) -> Result<
 
 // Each word of a line writes an item.
 #[tactic(auto, using(crate::proofs::Reading::each_is))]
-fn check_items<T: PageItem>(kind: ChargeKind, line: usize, words: LineWords<'_>) -> Result<(), TextError>
+fn check_items<T: PageItem>(
+    kind: ChargeKind,
+    line: usize,
+    words: LineWords<'_>,
+) -> Result<(), TextError>
     ensures { let words = words_left words.entry in
-        read (λ _. filter_map (T.form.reads kind) words) result
+        value_as (λ _. filter_map (T.form.reads kind) words) result
         ≡ each (T.form.reads kind) T.form.expected line words }
 {
     for word in words {
@@ -57,7 +62,7 @@ fn read_items_row<'a, T: PageItem>(
     place: Place<'a>,
 ) -> Result<Row<'a, LineWords<'a>>, TextError>
     ensures { let reads = T.form.reads kind in
-        read (row_of (λ words. filter_map reads (words_left words))) result
+        value_as (row_of (λ words. filter_map reads (words_left words))) result
         ≡ items_row reads T.form.expected part (place_meant place.entry) }
 {
     let row = read_row(part, place)?;
@@ -67,7 +72,7 @@ fn read_items_row<'a, T: PageItem>(
 
 // Reads a page, or finds the first error, and takes no memory for it.
 pub(crate) fn read_outline(text: &[u8]) -> Result<Outline<'_>, TextError>
-    ensures { read outlined result ≡ parsed text.now }
+    ensures { value_as outlined result ≡ parsed text.now }
 {
     let kind = read_kind_row(Place { passed: 0, text })?;
     let q = read_number_row(PagePart::Letters, kind.after)?;

@@ -2,16 +2,18 @@
 ghost use Rattle.std.specs.Prelude.{◌≡◌};
 ghost use Rattle.std.specs.Option.{ok_or, option_map};
 ghost use Rattle.console.specs.Places.{place_meant};
-ghost use Rattle.console.specs.Rows.{read, row_of, row, only_word, word_row, kind_row, number_row, ending};
+ghost use Rattle.console.specs.Results.{value_as};
+ghost use Rattle.console.specs.Rows.{row_of, row, only_word, word_row, kind_row, number_row, ending};
 ghost use Rattle.console.specs.Cutting.{words_left};
 ghost use Rattle.console.specs.declared.error.TextError.TheVariants.{Wrong};
 
+use crate::cutting::{Class, LineWords, cut, is_text};
 use crate::error::{Expected, TextError};
 use crate::kind::kind_named;
+use crate::names::Named;
 use crate::number::read_number;
 use crate::page_part::PagePart;
 use crate::place::Place;
-use crate::cutting::{Class, LineWords, cut, is_text};
 use charge::ChargeKind;
 
 // What a line says, its number counted from 1, and the place after it.
@@ -44,8 +46,11 @@ impl<'a, T: Copy> Row<'a, T> {
 }
 
 // The words after the part's name in the part's line.
-pub(crate) fn read_row<'a>(part: PagePart, place: Place<'a>) -> Result<Row<'a, LineWords<'a>>, TextError>
-    ensures { read (row_of words_left) result ≡ row part (place_meant place.entry) }
+pub(crate) fn read_row<'a>(
+    part: PagePart,
+    place: Place<'a>,
+) -> Result<Row<'a, LineWords<'a>>, TextError>
+    ensures { value_as (row_of words_left) result ≡ row part (place_meant place.entry) }
 {
     let start = place.next_word();
     if start.text.is_empty() {
@@ -57,7 +62,9 @@ pub(crate) fn read_row<'a>(part: PagePart, place: Place<'a>) -> Result<Row<'a, L
         expected: Expected::Name(part),
     };
     let parts = cut(Class::NotNewline, start.text);
-    let mut words = LineWords { line: parts.front };
+    let mut words = LineWords {
+        line: parts.leading,
+    };
     let Some(name) = words.next() else {
         return Err(wrong);
     };
@@ -69,14 +76,15 @@ pub(crate) fn read_row<'a>(part: PagePart, place: Place<'a>) -> Result<Row<'a, L
         line,
         after: Place {
             passed: start.passed,
-            text: parts.rest,
+            text: parts.past,
         },
     })
 }
 
 // The only word of a line.
 fn only_word<'a>(expected: Expected, row: Row<'a, LineWords<'a>>) -> Result<&'a [u8], TextError>
-    ensures { read (λ s. s.now) result ≡ only_word expected row.entry.line (words_left row.entry.value) }
+    ensures { value_as (λ s. s.now) result
+        ≡ only_word expected row.entry.line (words_left row.entry.value) }
 {
     let line = row.line;
     let mut words = row.value;
@@ -98,7 +106,8 @@ fn read_word<'a>(
     expected: Expected,
     place: Place<'a>,
 ) -> Result<Row<'a, &'a [u8]>, TextError>
-    ensures { read (row_of (λ s. s.now)) result ≡ word_row part expected (place_meant place.entry) }
+    ensures { value_as (row_of (λ s. s.now)) result
+        ≡ word_row part expected (place_meant place.entry) }
 {
     let row = read_row(part, place)?;
     let word = only_word(expected, row)?;
@@ -106,8 +115,11 @@ fn read_word<'a>(
 }
 
 // The number in the part's line.
-pub(crate) fn read_number_row<'a>(part: PagePart, place: Place<'a>) -> Result<Row<'a, u64>, TextError>
-    ensures { read (row_of (λ v. v)) result ≡ number_row part (place_meant place.entry) }
+pub(crate) fn read_number_row<'a>(
+    part: PagePart,
+    place: Place<'a>,
+) -> Result<Row<'a, u64>, TextError>
+    ensures { value_as (row_of (λ v. v)) result ≡ number_row part (place_meant place.entry) }
 {
     let row = read_word(part, Expected::Number, place)?;
     row.with(read_number(row.value), Expected::Number)
@@ -115,7 +127,7 @@ pub(crate) fn read_number_row<'a>(part: PagePart, place: Place<'a>) -> Result<Ro
 
 // The kind of charge in its line.
 pub(crate) fn read_kind_row<'a>(place: Place<'a>) -> Result<Row<'a, ChargeKind>, TextError>
-    ensures { read (row_of (λ v. v)) result ≡ kind_row (place_meant place.entry) }
+    ensures { value_as (row_of (λ v. v)) result ≡ kind_row (place_meant place.entry) }
 {
     let row = read_word(PagePart::Kind, Expected::Kind, place)?;
     row.with(kind_named(row.value), Expected::Kind)

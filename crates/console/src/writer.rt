@@ -42,8 +42,9 @@ fn rows_text(alloc: Global, rule: &str, density: &str, bytes: usize) -> Result<S
     format!(in alloc; "rule{rule}\ndensity{density}\nbytes {bytes}\n")
 }
 
-// The page of a preset: one line for each part. What is written so is read as the same preset. The parts are no
-// `Loaded`, since they may be of any header.
+/// The page of a preset: one line for each part, where `bytes` is how many bytes the preset has. What is written so is
+/// read as the same preset. The parts are no `Loaded`, since they may be of any header, which is written as it is; only
+/// want of memory is refused.
 pub fn page(
     alloc: Global,
     kind: ChargeKind,

@@ -7,7 +7,7 @@ use crate::ring_strips::RingStrips;
 use crate::trouble::Trouble;
 use bench::Verdict;
 use charge::{Both, Channels, ChargeKind, Pitch, Voices};
-use cli::{BreaksText, Command, Digits, Outcome, read_script};
+use cli::{BreaksText, Command, RingDigits, Outcome, read_script};
 use criterion::MOST_SHOWN;
 use fault::limits::MOST_WORDS;
 use player::Player;
@@ -93,7 +93,7 @@ pub(crate) fn play<'a>(rt: &HostRuntime, path: &'a str) -> Result<Outcome, Troub
 pub(crate) fn run<'a>(
     rt: &HostRuntime,
     path: &'a str,
-    ring: Digits<'_>,
+    ring: RingDigits<'_>,
     steps: usize,
     meters: bool,
 ) -> Result<Outcome, Trouble<'a>> {

@@ -4,4 +4,4 @@ use Rattle.console.specs.Cutting.{belongs}
 use Rattle.console.proofs.cutting.cut.Goals as goal
 
 pub split_at-requires : goal.split_at-requires
-split_at-requires c = omega (arith, c.front_len.ensures, prefix_len-le-length (belongs c.args.class) c.args.text.now)
+split_at-requires c = omega (arith, c.leading_len.ensures, prefix_len-le-length (belongs c.args.class) c.args.text.now)

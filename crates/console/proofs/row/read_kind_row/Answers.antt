@@ -1,7 +1,8 @@
 use Rattle.std.proofs.Common.{ap, ◌∙◌}
 use Rattle.console.specs.Names.{named_kind}
 use Rattle.console.specs.Places.{place_meant}
-use Rattle.console.specs.Rows.{read, row_of, kind_row}
+use Rattle.console.specs.Results.{value_as}
+use Rattle.console.specs.Rows.{row_of, kind_row}
 use Rattle.console.specs.declared.error.Expected.TheVariants.{Kind}
 use Rattle.console.specs.declared.page_part.PagePart.TheVariants as part
 use Rattle.console.proofs.Reading.{passed_on, value_stops, value_with}
@@ -15,4 +16,4 @@ returns-in_err-row c =
 
 pub returns : goal.returns
 unfolding kind_row
-returns c = ap (read (row_of (λ x. x))) c.with.ensures ∙ value_with named_kind part.Kind Kind (place_meant c.args.place) c.in_ok-row.row c.kind_named.result c.in_ok-row.ensures c.kind_named.ensures
+returns c = ap (value_as (row_of (λ x. x))) c.with.ensures ∙ value_with named_kind part.Kind Kind (place_meant c.args.place) c.in_ok-row.row c.kind_named.result c.in_ok-row.ensures c.kind_named.ensures

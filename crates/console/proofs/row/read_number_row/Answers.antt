@@ -1,7 +1,8 @@
 use Rattle.std.proofs.Common.{ap, ◌∙◌}
 use Rattle.console.specs.Numbers.{number}
 use Rattle.console.specs.Places.{place_meant}
-use Rattle.console.specs.Rows.{read, row_of, number_row}
+use Rattle.console.specs.Results.{value_as}
+use Rattle.console.specs.Rows.{row_of, number_row}
 use Rattle.console.specs.declared.error.Expected.TheVariants.{Number}
 use Rattle.console.proofs.Reading.{passed_on, value_stops, value_with}
 use Rattle.console.proofs.row.read_number_row.Goals as goal
@@ -14,4 +15,4 @@ returns-in_err-row c =
 
 pub returns : goal.returns
 unfolding number_row
-returns c = ap (read (row_of (λ x. x))) c.with.ensures ∙ value_with number c.args.part Number (place_meant c.args.place) c.in_ok-row.row c.read_number.result c.in_ok-row.ensures c.read_number.ensures.value
+returns c = ap (value_as (row_of (λ x. x))) c.with.ensures ∙ value_with number c.args.part Number (place_meant c.args.place) c.in_ok-row.row c.read_number.result c.in_ok-row.ensures c.read_number.ensures.value

@@ -1,6 +1,7 @@
 use Rattle.std.proofs.Common.{ap, ◌∙◌}
 use Rattle.console.specs.Places.{place_meant}
-use Rattle.console.specs.Rows.{read, row_of}
+use Rattle.console.specs.Results.{value_as}
+use Rattle.console.specs.Rows.{row_of}
 use Rattle.console.specs.Cutting.{words_left}
 use Rattle.console.proofs.Reading.{passed_on, word_stops, word_wrong, word-is}
 use Rattle.console.proofs.row.read_word.Goals as goal
@@ -17,5 +18,5 @@ returns-in_err-word c =
 
 pub returns : goal.returns
 returns c =
-    ap (read (row_of (λ s. s.now))) c.with.ensures
+    ap (value_as (row_of (λ s. s.now))) c.with.ensures
     ∙ word-is c.args.part c.args.expected (place_meant c.args.place) (row_of words_left c.in_ok-row.row) c.in_ok-row.ensures c.in_ok-word.word.now c.in_ok-word.ensures
