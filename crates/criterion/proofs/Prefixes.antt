@@ -1,15 +1,17 @@
 -- The crossings by codes, and the strip that they fill. Assumes nothing.
-use Rattle.std.proofs.Common.{get_or-take, div-le_self, ◌≡◌, ℕ, zero, suc, ◌+◌, ◌-◌, ◌*◌, ◌/◌, ◌%◌, ◌^◌, ◌<◌, List, [], ◌∷◌, ◌++◌, map, length, get_or, take, drop, set, sym, refl, ap, ◌∙◌, subst, ap₂, add-zero, add-suc, mul_comm, div-lt_iff_lt-mul, pow-suc, zero-add, zero-mul, div-one, add-one, arith, take_all, pow-add}
+use Rattle.std.proofs.Common.{get_or-take, div-le_self, ◌≡◌, ℕ, zero, suc, ◌+◌, ◌-◌, ◌*◌, ◌/◌, ◌%◌, ◌^◌, ◌<◌, ◌≤◌, ◌==◌, cond, false, ⊎_elim, List, [], ◌∷◌, ◌++◌, map, length, get_or, take, drop, set, sym, refl, ap, ◌∙◌, subst, ap₂, add-zero, add-suc, mul_comm, div-lt_iff_lt-mul, pow-suc, zero-add, zero-mul, div-one, add-one, arith, take_all, pow-add}
 use native.Mathlib.Nat.{pow-zero, div-div-eq-div-mul, div-eq_of_lt}
 use lib.Seq.{take-append-le}
 use Rattle.std.specs.Int.Digits.{number_from_digits_after}
 use Rattle.std.proofs.lemmas.List.{take_more_set, drop-set, drop_all, append_assoc, append-nil, map_push, get_or-map, length-map}
+use Rattle.std.proofs.lemmas.Bool.{cases_lt}
+use Rattle.std.proofs.lemmas.Bool.Decides.{nat_tests}
 use Rattle.charge.specs.Groups.{Group, Kind, minus, sum_over}
 use Rattle.charge.proofs.Sums.{left_comm, interchange, neg_is, sum_more, sum_same, sum_first}
 use Rattle.automaton.specs.Words.{code, word, repeated, table}
 use Rattle.criterion.specs.Labelled.{LabelList, label_at}
 use Rattle.automaton.proofs.Codes.{length-word, power-some, code-word}
-use Rattle.automaton.proofs.Rings.{length-table, get_or-table, window-append}
+use Rattle.automaton.proofs.Rings.{length-table, get_or-table, table-past, window-append}
 use Rattle.criterion.specs.Search.{J, crossings}
 
 -- zeros in front of a word leave its code
@@ -114,10 +116,39 @@ module _ {C : Type 0} (K : Kind C) (d : LabelList K.group.Carrier) where
     is ∙ sum_more K.group (prefix_label v) j (K.means s) (K.means x) sums (at ∙ ap (λ c. get_or d.charges c K.group.zero) prefixes),
   )
 
-  pub summed_all : (v j prefix : ℕ) (s : C) → Summed v j prefix s → j ≡ d.m - 1 → 0 < d.q → v < d.q ^ (d.m - 1) →
+  summed_all : (v j prefix : ℕ) (s : C) → Summed v j prefix s → j ≡ d.m - 1 → 0 < d.q → v < d.q ^ (d.m - 1) →
       K.group.neg (K.means s) ≡ J K 0 d (word d.q (d.m - 1) v)
   summed_all v j prefix s (prefixes, sums) all some below =
       ap K.group.neg (sums ∙ ap (sum_over K.group (prefix_label v)) all) ∙ sym (crossing-code v some below)
+
+  -- with all terms, the opposite of the sum is the crossing where nothing is left, and there is none where some is
+  pub summed-crossing : (v j prefix : ℕ) (s : C) → Summed v j prefix s → j ≡ d.m - 1 → 0 < d.q →
+      cond (prefix == 0) (K.group.neg (K.means s)) K.group.zero ≡ get_or (crossings K 0 d) v K.group.zero
+  summed-crossing v j prefix s summed all some =
+      ⊎_elim
+      (λ l.
+      let none : prefix ≡ 0 = left ∙ div-eq_of_lt l in
+      ap (λ n. cond (n == 0) (K.group.neg (K.means s)) K.group.zero) none
+      ∙ summed_all v j prefix s summed all some l
+      ∙ sym (get_or-table (d.q ^ (d.m - 1)) at K.group.zero v l))
+      (λ l.
+      let some_left : 1 ≤ prefix = left_over l in
+      let more : (prefix == 0) ≡ false = grind (arith, nat_tests) in
+      ap (λ b. cond b (K.group.neg (K.means s)) K.group.zero) more ∙ sym (table-past (d.q ^ (d.m - 1)) at K.group.zero v l))
+      (cases_lt v (d.q ^ (d.m - 1)))
+    where
+      at : ℕ → K.group.Carrier
+      at c = J K 0 d (word d.q (d.m - 1) c)
+
+      left : prefix ≡ v / d.q ^ (d.m - 1)
+      left = summed.0 ∙ ap (λ n. v / d.q ^ n) all
+
+      left_over : d.q ^ (d.m - 1) ≤ v → 1 ≤ prefix
+      left_over h =
+          ⊎_elim
+          (λ l. let none : v / d.q ^ (d.m - 1) < 1 = omega (arith, left) in absurd (omega (arith, (div-lt_iff_lt-mul (power-some d.q some (d.m - 1))).0 none)))
+          (λ l. l)
+          (cases_lt prefix 1)
 
 module _ {C X : Type 0} (means : C → X) (f : ℕ → X) where
   -- one more charge at the front of a strip

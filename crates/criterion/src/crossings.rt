@@ -1,8 +1,7 @@
 // The crossings of all words of m - 1 letters.
-ghost use Rattle.std.specs.Prelude.{◌≡◌, ◌-◌, ◌/◌, ◌^◌, ◌<◌, map, length, slice_index_or};
-ghost use Rattle.automaton.specs.Words.{word};
+ghost use Rattle.std.specs.Prelude.{◌≡◌, ◌-◌, ◌^◌, map, length, ◌==◌, if◌then◌else◌, slice_index_or};
 ghost use Rattle.charge.specs.Groups.{minus};
-ghost use Rattle.criterion.specs.Search.{padding, J, crossings};
+ghost use Rattle.criterion.specs.Search.{padding, crossings};
 
 use crate::label::Label;
 use charge::{Charge, difference};
@@ -18,11 +17,10 @@ pub(crate) fn head_count<C: Charge, L: Label<C>>(label: &L) -> usize
 // codes of v without its last letters. Of the code of a word of m - 1 letters nothing is left then.
 #[inline(always)]
 fn prefixes_sum<C: Charge, L: Label<C>>(label: &L, v: usize) -> (C, usize)
-    ensures left { let d = L.labels C.kind label.now in
-        result.1 ≡ v / d.q ^ (d.m - 1) }
-    ensures sum { let d = L.labels C.kind label.now in
-        v < d.q ^ (d.m - 1) →
-        C.kind.group.neg (C.kind.means result.0) ≡ J C.kind padding d (word d.q (d.m - 1) v) }
+    ensures { let all = crossings C.kind padding (L.labels C.kind label.now) in
+        let opposite = C.kind.group.neg (C.kind.means result.0) in
+        (if result.1 == 0 then opposite else C.kind.group.zero)
+        ≡ slice_index_or all v C.kind.group.zero }
 {
     let q = label.q();
     let mut prefix = v;
@@ -32,6 +30,15 @@ fn prefixes_sum<C: Charge, L: Label<C>>(label: &L, v: usize) -> (C, usize)
         prefix /= q;
     }
     (sum, prefix)
+}
+
+// The opposite of a sum if nothing is left, and otherwise zero.
+#[inline(always)]
+fn opposite_of<C: Charge>(sum: C, left: usize) -> C
+    ensures { let opposite = C.kind.group.neg (C.kind.means sum) in
+        C.kind.means result ≡ (if left == 0 then opposite else C.kind.group.zero) }
+{
+    if left == 0 { sum.opposite() } else { C::zero() }
 }
 
 /// The crossing J of the word of m - 1 letters with this code, and zero from code q^(m - 1) on.
@@ -44,7 +51,7 @@ pub fn crossing<C: Charge, L: Label<C>>(label: &L, code: usize) -> C
         C.kind.means result ≡ slice_index_or all code C.kind.group.zero }
 {
     let (sum, left) = prefixes_sum(label, code);
-    if left == 0 { sum.opposite() } else { C::zero() }
+    opposite_of(sum, left)
 }
 
 // The crossing of a word from that of its prefix, which is a zero and all its letters but the last.
@@ -55,8 +62,8 @@ fn next_crossing<C: Charge>(prefix: C, zeros: C, whole: C) -> C
     prefix.plus(difference(zeros, whole))
 }
 
-// Fills a strip of as many charges with the crossings, each from that of its word's prefix: J(v) = J(v / q)
-// - d(v) + d(0), so that one label is asked for a word. By index, since a prefix stands before its word in the strip.
+// Fills a strip of as many charges with the crossings, each from that of its word's prefix, so that one label is asked
+// for a word: J(v) = J(v / q) - d(v) + d(0). By index, since a prefix stands before its word in the strip.
 pub(crate) fn fill_crossings<C: Charge, L: Label<C>>(label: &L, strip: &mut [C])
     requires { let d = L.labels C.kind label.now in
         length strip.old ≡ d.q ^ (d.m - 1) }

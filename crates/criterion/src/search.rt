@@ -99,8 +99,8 @@ fn check_room<C: Charge, L: Label<C>>(
 /// fails, the one with the smallest code is answered, and a ring on whose windows the labels do not sum to zero is
 /// written to the front of `ring`. Where none is answered, the labels sum to zero on the rings of every length.
 ///
-/// Refused by `Stop::ShortStrip` at place 0 where `crossings` has fewer than q^(m - 1) charges or `ring` fewer than 2 m
-/// - 1 cells, of which `MOST_SHOWN` are always enough. Then nothing is written.
+/// Refused, with nothing written, by `Stop::ShortStrip` at place 0: where `crossings` has fewer than q^(m - 1) charges
+/// or `ring` fewer than 2 m - 1 cells, of which `MOST_SHOWN` are always enough.
 ///
 /// ```rust
 /// if let Some(Failure { word, len }) = examine(&label, &mut crossings, &mut ring)? {
