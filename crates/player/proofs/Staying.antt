@@ -1,7 +1,6 @@
 -- The charges that a call and a script leave as they were: the charges themselves. Assumes nothing.
-use Rattle.std.proofs.Common.{◌≡◌, ℕ, ◌+◌, ◌-◌, ◌≤◌, max, Bool, true, false, cond, List, length, drop, Some, None, Option, Result, Ok, Err, sym, ap, ◌∙◌, subst, arith}
+use Rattle.std.proofs.Common.{◌≡◌, ℕ, ◌≤◌, max, Bool, true, false, cond, List, length, Some, None, Option, Result, Ok, Err, ◌∙◌, subst, arith}
 use Rattle.std.specs.Option.{option_map}
-use Rattle.std.proofs.lemmas.List.{drop-drop}
 use Rattle.fault.specs.declared.Fault.{Fault}
 use Rattle.charge.specs.Groups.{Kind}
 use Rattle.automaton.specs.Meanings.{Local, Weights}
@@ -16,15 +15,8 @@ use Rattle.player.specs.Logs.{Log, allowed, accepted, standing, ring_opened, lon
 use Rattle.player.specs.Logs.Log.{◌then◌}
 use Rattle.player.specs.Obeying.{ChargesWritten, front_of_all, written_by, written_after, StaysPast}
 use Rattle.player.specs.Scripts.{Played, got, said_to, logged, still_open, cells_after, played_more, played}
+use Rattle.player.proofs.Books.{past-later}
 use Rattle.player.proofs.Scripts.{cells_stand}
-
--- what stays past an index stays past a later one
-past-later : {X : Type 0} (n m : ℕ) (old new : List X) → n ≤ m → drop n new ≡ drop n old → drop m new ≡ drop m old
-past-later n m old new less e =
-    ap (λ k. drop k new) split ∙ sym (drop-drop (m - n) n new) ∙ ap (drop (m - n)) e ∙ drop-drop (m - n) n old ∙ ap (λ k. drop k old) (sym split)
-  where
-    split : m ≡ n + (m - n)
-    split = omega arith
 
 -- one call more, which writes no charge past the first m
 pub stays-more : {C : Type 0} (n m : ℕ) (w : ChargesWritten) (old mid new : PlayerStrips C) → n ≤ m → (w.opening ≤ m) × (w.crossed ≤ m) × (w.touched ≤ m) →

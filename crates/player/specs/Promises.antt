@@ -19,7 +19,7 @@ use Rattle.bench.specs.States.{holding_bench, rule_of, density_of, holding_of, d
 use Rattle.player.specs.declared.ledger.Ledger.{Ledger}
 use Rattle.player.specs.declared.playing.Playing.{Playing}
 use Rattle.player.specs.declared.sites.Sites.{Sites}
-use Rattle.player.specs.declared.sites.Crossings.{Crossings}
+use Rattle.player.specs.declared.sites.CrossingCharges.{CrossingCharges}
 use Rattle.player.specs.Answers.{strips, of_player, open_cells}
 use Rattle.player.specs.Calls.{PlayerCall, PlayerAnswer, PlayerRing, PlayerStrips, charges, crossing_at, booked, call_checked, Does}
 use Rattle.player.specs.Calls.PlayerCall.{closes}
@@ -67,7 +67,7 @@ module _ {C R D : Type 0} {c : ChargeOf C} {r : RuleOf R} {d : DensityOf D C} wh
   abbrev pub charges_at : (K : Kind C) → Sites C R D c r d → ℕ → K.group.Carrier
   charges_at K s = charges K (r.meaning (rule_of s.bench.now)) (d.weights K (density_of s.bench.now)) s.ring.cells.now
 
-  abbrev pub crossings_at : (K : Kind C) → Crossings C R D c r d → ℕ → K.group.Carrier
+  abbrev pub crossings_at : (K : Kind C) → CrossingCharges C R D c r d → ℕ → K.group.Carrier
   crossings_at K s =
       let b = holding_of s.crossings in crossing_at K (r.meaning (rule_of b)) (d.weights K (density_of b)) s.ring.cells.now
 

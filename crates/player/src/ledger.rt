@@ -82,45 +82,6 @@ impl<'a, C: Charge> Ledger<'a, C> {
         let sum = self.sum_at(i, charge);
         self.put(i, sum);
     }
-
-    // Writes each site's charge.
-    pub(crate) fn fill<S: SiteCharges<C>>(&mut self, charges: &S)
-        ensures sites { map C.kind.means (ledger_charges self.new)
-            ≡ table (length (ledger_charges self.old)) (S.charges C.kind charges.now) }
-        ensures same { SameStrip self.old self.new }
-    {
-        for i in 0..self.sites.len() {
-            self.put(i, charges.charge_at(i));
-        }
-    }
-
-    // Adds to each site's charge.
-    pub(crate) fn book<S: SiteCharges<C>>(&mut self, charges: &S)
-        ensures sites { let old = map C.kind.means (ledger_charges self.old) in
-            map C.kind.means (ledger_charges self.new)
-            ≡ booked C.kind.group (S.charges C.kind charges.now) old }
-        ensures same { SameStrip self.old self.new }
-    {
-        for i in 0..self.sites.len() {
-            self.add(i, charges.charge_at(i));
-        }
-    }
-
-    // Adds to the charges of the `count` sites up to site i, going round.
-    fn book_back<S: SiteCharges<C>>(&mut self, i: usize, count: usize, charges: &S)
-        requires { let len = length (ledger_charges self.old) in (i < len) × (count ≤ len) }
-        ensures sites { let old = map C.kind.means (ledger_charges self.old) in
-            let len = length (ledger_charges self.old) in
-            let near = up_to C.kind.group len i count (S.charges C.kind charges.now) in
-            map C.kind.means (ledger_charges self.new) ≡ booked C.kind.group near old }
-        ensures same { SameStrip self.old self.new }
-    {
-        let len = self.sites.len();
-        for t in 0..count {
-            let site = site_before(len, i, t);
-            self.add(site, charges.charge_at(site));
-        }
-    }
 }
 
 // The site that stands t sites before site i of a ring.
@@ -130,36 +91,6 @@ fn site_before(len: usize, i: usize, t: usize) -> usize
     ensures back { back len i result ≡ t }
 {
     if t <= i { i - t } else { len - (t - i) }
-}
-
-// Writes each site's charge.
-fn fill_strip<C: Charge, S: SiteCharges<C>>(strip: &mut [C], charges: &S)
-    ensures { map C.kind.means strip.new ≡ table (length strip.old) (S.charges C.kind charges.now) }
-{
-    Ledger::new(strip).fill(charges);
-}
-
-// Adds to each site's charge.
-fn book_strip<C: Charge, S: SiteCharges<C>>(strip: &mut [C], charges: &S)
-    ensures { map C.kind.means strip.new
-        ≡ booked C.kind.group (S.charges C.kind charges.now) (map C.kind.means strip.old) }
-{
-    Ledger::new(strip).book(charges);
-}
-
-// Adds to the charges of the `count` sites up to site i, going round.
-fn book_strip_back<C: Charge, S: SiteCharges<C>>(
-    strip: &mut [C],
-    i: usize,
-    count: usize,
-    charges: &S,
-)
-    requires { (i < length strip.old) × (count ≤ length strip.old) }
-    ensures { let len = length strip.old in
-        let near = up_to C.kind.group len i count (S.charges C.kind charges.now) in
-        map C.kind.means strip.new ≡ booked C.kind.group near (map C.kind.means strip.old) }
-{
-    Ledger::new(strip).book_back(i, count, charges);
 }
 
 // The charge of site i, and zero past the last site.
@@ -172,23 +103,18 @@ pub(crate) fn read_strip<C: Charge>(strip: &mut [C], i: usize) -> C
 }
 
 // Writes the charges of the first `len` sites.
-pub(crate) fn fill_front<C: Charge, S: SiteCharges<C>>(len: usize, strip: &mut [C], charges: &S)
+pub(crate) fn fill<C: Charge, S: SiteCharges<C>>(len: usize, strip: &mut [C], charges: &S)
     requires { len ≤ length strip.old }
     ensures { FrontMeans C.kind (table len (S.charges C.kind charges.now)) strip.old strip.new }
 {
-    fill_strip(&mut strip[..len], charges);
+    let mut ledger = Ledger::new(strip);
+    for i in 0..len {
+        ledger.put(i, charges.charge_at(i));
+    }
 }
 
-// Adds to the charges of the first `len` sites.
-pub(crate) fn book_front<C: Charge, S: SiteCharges<C>>(len: usize, strip: &mut [C], charges: &S)
-    requires { len ≤ length strip.old }
-    ensures { Books C.kind len (S.charges C.kind charges.now) strip.old strip.new }
-{
-    book_strip(&mut strip[..len], charges);
-}
-
-// Adds to the charges of the `count` sites up to site i of the ring of the first `len` sites.
-pub(crate) fn book_front_back<C: Charge, S: SiteCharges<C>>(
+// Adds to the charges of the `count` sites up to site i, going round, of a ring of the first `len` sites.
+pub(crate) fn book_up_to<C: Charge, S: SiteCharges<C>>(
     len: usize,
     strip: &mut [C],
     i: usize,
@@ -199,5 +125,17 @@ pub(crate) fn book_front_back<C: Charge, S: SiteCharges<C>>(
     ensures { let near = up_to C.kind.group len i count (S.charges C.kind charges.now) in
         Books C.kind len near strip.old strip.new }
 {
-    book_strip_back(&mut strip[..len], i, count, charges);
+    let mut ledger = Ledger::new(strip);
+    for t in 0..count {
+        let site = site_before(len, i, t);
+        ledger.add(site, charges.charge_at(site));
+    }
+}
+
+// Adds to the charges of the first `len` sites.
+pub(crate) fn book<C: Charge, S: SiteCharges<C>>(len: usize, strip: &mut [C], charges: &S)
+    requires { (1 ≤ len) × (len ≤ length strip.old) }
+    ensures { Books C.kind len (S.charges C.kind charges.now) strip.old strip.new }
+{
+    book_up_to(len, strip, len - 1, len, charges);
 }

@@ -10,9 +10,9 @@ ghost use Rattle.player.specs.Answers.{open_said, Stays};
 ghost use Rattle.player.specs.Logs.{LogsTrueOn};
 ghost use Rattle.player.specs.Promises.{ring_on, ring_len, holding_under, sites_ring, site_charges, meter_strips, tested_by, DoesOn};
 
-use crate::ledger::{book_front, fill_front};
+use crate::ledger::fill;
 use crate::playing::Playing;
-use crate::sites::{Charges, NoCharges, Sites};
+use crate::sites::{Sites, ZeroCharges};
 use automaton::{Density, Ring, Rule};
 use bench::{Holding, Refused};
 use charge::Charge;
@@ -64,9 +64,9 @@ fn open_on<C: Charge, R: Rule, D: Density<C>>(
 {
     let ring = sites.ring.cells;
     cells[..ring.len()].copy_from_slice(ring);
-    fill_front(ring.len(), opening, &Charges { sites });
-    fill_front(ring.len(), crossed, &NoCharges);
-    fill_front(ring.len(), touched, &NoCharges);
+    fill(ring.len(), opening, sites);
+    fill(ring.len(), crossed, &ZeroCharges);
+    fill(ring.len(), touched, &ZeroCharges);
 }
 
 impl<C: Charge, R: Rule, D: Density<C>> Playing<C, R, D> {

@@ -8,6 +8,7 @@ ghost use Rattle.player.specs.Promises.{open_ring, meter_strips, tested_by, Does
 use crate::ledger::read_strip;
 use crate::meters::Reading;
 use crate::playing::Playing;
+use crate::sites::SiteCharges;
 use automaton::{Density, Rule};
 use charge::Charge;
 use fault::{Fault, Stop};
@@ -59,7 +60,7 @@ impl<C: Charge, R: Rule, D: Density<C>> Playing<C, R, D> {
             opening: read_strip(opening, site),
             crossed: read_strip(crossed, site),
             touched: read_strip(touched, site),
-            now: self.sites(cells).charge(site),
+            now: self.sites(cells).charge_at(site),
         }
     }
 

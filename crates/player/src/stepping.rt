@@ -7,9 +7,9 @@ ghost use Rattle.player.specs.Calls.PlayerCall.{steps};
 ghost use Rattle.player.specs.Answers.{done_said, Stays};
 ghost use Rattle.player.specs.Promises.{open_ring, ring_len, step_strips, tested_by, site_crossings, Books, DoesOn};
 
-use crate::ledger::book_front;
+use crate::ledger::book;
 use crate::playing::Playing;
-use crate::sites::Crossings;
+use crate::sites::CrossingCharges;
 use automaton::{Density, Rule, next_ring};
 use bench::NextWords;
 use charge::Charge;
@@ -56,10 +56,10 @@ impl<C: Charge, R: Rule, D: Density<C>> Playing<C, R, D> {
             Books C.kind ring.len flows crossed.old crossed.new }
     {
         let mut room = NextWords::new();
-        book_front(
+        book(
             self.len,
             crossed,
-            &Crossings {
+            &CrossingCharges {
                 crossings: self.bench.crossings(self.len, &mut room),
                 ring: self.sites(cells).ring,
             },

@@ -2,7 +2,7 @@ use Rattle.std.proofs.Common.{◌<◌, [], map, length, refl, ap, ◌∙◌, sub
 use Rattle.std.specs.Option.{option_map}
 use Rattle.std.proofs.lemmas.List.{take_all}
 use Rattle.player.specs.Answers.{strips, answer_meant, open_cells}
-use Rattle.player.proofs.Plays.{answers_past}
+use Rattle.player.proofs.Books.{past-set}
 use Rattle.capi.specs.Answers.{script_answer}
 use Rattle.capi.specs.Scripts.{asks, script_call, session, Obeys}
 use Rattle.capi.proofs.Sessions.{session_step, given_more, given_front}
@@ -33,7 +33,7 @@ loop-i-preserved g c =
       step.2,
       step.1,
       given_more (option_map (answer_meant K)) (script_answer g.C.Sent.sending) _ _ c.loop-i.answers i c.answer_one-next.result.1 said c.script_answer.result room inv.3 refl step.0 c.script_answer.ensures,
-      answers_past c.loop-i.answers a.answers.now i c.script_answer.result inv.4,
+      past-set c.loop-i.answers a.answers.now i c.script_answer.result inv.4,
     )
 
 pub returns : goal.returns

@@ -5,7 +5,8 @@ use Rattle.player.specs.Answers.{strips, call_meant, answer_meant}
 use Rattle.player.specs.Obeying.{written_after, StaysPast}
 use Rattle.player.specs.Promises.{all_strips}
 use Rattle.player.specs.Scripts.{said_to, left_by, cells_after}
-use Rattle.player.proofs.Plays.{script_more, answers_more, answers_past}
+use Rattle.player.proofs.Books.{past-set}
+use Rattle.player.proofs.Plays.{script_more, answers_more}
 use Rattle.player.proofs.Scripts.{cells_stand}
 use Rattle.player.proofs.Staying.{Stayed, stayed_more}
 use Rattle.player.proofs.player.play.Goals as goal
@@ -37,7 +38,7 @@ loop-i-preserved g c =
           ∙ ap (λ p. p.strips) (sym more),
       answers_more (option_map (answer_meant K)) now.answers i answer _ _ (omega arith) inv.3 said
           ∙ ap (λ p. p.said) (sym more),
-      answers_past now.answers a.answers.now i answer inv.4,
+      past-set now.answers a.answers.now i answer inv.4,
       subst (λ p. Stayed K r d p (all_strips a.cells.now a.spare.now a.opening.now a.crossed.now a.touched.now) (all_strips new.cells new.spare new.opening new.crossed new.touched))
           (sym more)
           (stayed_more K r d first (map call_meant (take i a.script.now)) call answer (all_strips a.cells.now a.spare.now a.opening.now a.crossed.now a.touched.now)

@@ -20,5 +20,5 @@ returns-clause-crossed g c =
     let ring = c.sites.ensures.ring in
     let bench = c.crossings.ensures in
     let at : Local × Weights K.group.Carrier × List ℕ → Type 0 = λ x.
-    FrontMeans K (booked K.group (crossing_at K x.0 x.1 x.2) (take a.self.now.len (map K.means a.crossed.now))) a.crossed.now c.book_front.new.strip in
-    subst at (λ j. (g.R.Rule.meaning (bench j).parts.rule, g.D.Density.weights K (bench j).parts.density, ring j)) c.book_front.ensures
+    FrontMeans K (booked K.group (crossing_at K x.0 x.1 x.2) (take a.self.now.len (map K.means a.crossed.now))) a.crossed.now c.book.new.strip in
+    subst at (λ j. (g.R.Rule.meaning (bench j).parts.rule, g.D.Density.weights K (bench j).parts.density, ring j)) c.book.ensures
