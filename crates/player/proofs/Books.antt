@@ -1,10 +1,10 @@
 -- Charges that are written and booked one site after another. Assumes nothing.
-use Rattle.std.proofs.Common.{◌≡◌, ℕ, ◌+◌, ◌-◌, ◌<◌, ◌≤◌, List, [], ◌∷◌, ◌++◌, map, length, get_or, take, drop, set, sym, ap, ◌∙◌, subst, ap₂, arith}
+use Rattle.std.proofs.Common.{◌≡◌, ℕ, ◌+◌, ◌-◌, ◌<◌, ◌≤◌, List, [], ◌∷◌, ◌++◌, map, length, get_or, take, drop, set, sym, ap, ◌∙◌, subst, ap₂, add-zero, arith}
 use Rattle.std.proofs.Math.Seq.{take-set-lt}
-use Rattle.std.proofs.lemmas.List.{map_push, map-append, drop-map, take-map, take-append-drop, length-map, length-take, length-take-le, length-drop, get_or-take, take_more_set, drop-set-lt, drop-drop}
+use Rattle.std.proofs.lemmas.List.{map-append, drop-map, take-map, take-append-drop, length-map, length-take, length-take-le, length-drop, get_or-take, get_or-drop, take_more_set, drop-set-lt, drop-drop}
 use Rattle.charge.specs.Groups.{Kind}
 use Rattle.automaton.specs.Words.{table}
-use Rattle.automaton.proofs.Rings.{length-table, window-append}
+use Rattle.automaton.proofs.Rings.{length-table, window-append, window_same}
 use Rattle.criterion.specs.ChargeStrips.{FrontMeans}
 use Rattle.player.specs.Calls.{booked}
 use Rattle.player.specs.Near.{back, up_to}
@@ -47,20 +47,21 @@ module _ {C : Type 0} (K : Kind C) (xs : List K.group.Carrier) (n : ℕ) (old ne
     front-long room =
         omega (arith, room, size, length-map (take n new) K.means, ap length front-taken, length-take n new, length-drop n new, length-drop n old, ap length front-past)
 
--- one site more that is written
-pub fill_more : {C : Type 0} (K : Kind C) (f : ℕ → K.group.Carrier) (old mid : List C) (i : ℕ) (x : C) → i < length old → K.means x ≡ f i →
-    FrontMeans K (table i f) old mid → FrontMeans K (table (i + 1) f) old (set mid i x)
-fill_more K f old mid i x h is fronts =
-    front-of K (table (i + 1) f) (i + 1) old (set mid i x)
-    (ap (map K.means) (take_more_set mid i x (omega (arith, h, front-long K (table i f) i old mid fronts size (omega (arith, h)))))
-    ∙ map_push K.means (take i mid) x
-    ∙ ap₂ (λ t y. t ++ (y ∷ [])) (front-taken K (table i f) i old mid fronts size) (is ∙ ap f (omega arith))
-    ∙ sym (window-append i 1 f 0))
-    (past-set mid old i x (front-past K (table i f) i old mid fronts size))
-    (length-table (i + 1) f)
+-- one charge more at the front
+pub front_more : {C : Type 0} (K : Kind C) (g : ℕ → K.group.Carrier) (old mid new : List C) (i : ℕ) → i < length old → map K.means new ≡ set (map K.means mid) i (g i) →
+    drop (i + 1) new ≡ drop (i + 1) mid → FrontMeans K (table i g) old mid → FrontMeans K (table (i + 1) g) old new
+front_more K g old mid new i h written rest fronts =
+    front-of K (table (i + 1) g) (i + 1) old new
+    (sym (take-map K.means (i + 1) new)
+    ∙ ap (take (i + 1)) written
+    ∙ take_more_set (map K.means mid) i (g i) (omega (arith, h, length-map mid K.means, front-long K (table i g) i old mid fronts size (omega (arith, h))))
+    ∙ ap₂ (λ t y. t ++ (y ∷ [])) (take-map K.means i mid ∙ front-taken K (table i g) i old mid fronts size) (ap g (omega arith))
+    ∙ sym (window-append i 1 g 0))
+    (rest ∙ past-later i (i + 1) old mid (omega arith) (front-past K (table i g) i old mid fronts size))
+    (length-table (i + 1) g)
   where
-    size : length (table i f) ≡ i
-    size = length-table i f
+    size : length (table i g) ≡ i
+    size = length-table i g
 
 module _ {C : Type 0} (K : Kind C) (L i : ℕ) (f : ℕ → K.group.Carrier) (old : List C) (room : L ≤ length old) where
   abbrev front : List K.group.Carrier
@@ -96,3 +97,34 @@ module _ {C : Type 0} (K : Kind C) (L i : ℕ) (f : ℕ → K.group.Carrier) (ol
     where
       so_far : take L (map K.means mid) ≡ near t
       so_far = take-map K.means L mid ∙ front-taken K (near t) L old mid books (near-size t)
+
+module _ {C : Type 0} (K : Kind C) (f : ℕ → K.group.Carrier) (old : List C) where
+  -- the charge of a site once it is booked
+  abbrev sum : ℕ → K.group.Carrier
+  sum j = K.group.add (get_or (map K.means old) j K.group.zero) (f j)
+
+  front-booked : (n : ℕ) → n ≤ length old → booked K.group f (take n (map K.means old)) ≡ table n sum
+  front-booked n room =
+      let xs = map K.means old in
+      ap (λ k. table k (λ j. K.group.add (get_or (take n xs) j K.group.zero) (f j))) (length-take-le n xs (omega (arith, room, length-map old K.means)))
+      ∙ window_same n (λ j. K.group.add (get_or (take n xs) j K.group.zero) (f j)) sum 0 0
+      (λ t h. ap (λ y. K.group.add y (f (0 + t))) (get_or-take n xs (0 + t) K.group.zero (omega (arith, h))))
+
+  -- one site more of the first that are booked
+  pub book_next : (mid new : List C) (i : ℕ) (x : C) → i < length old → K.means x ≡ f i →
+      map K.means new ≡ set (map K.means mid) i (K.group.add (get_or (map K.means mid) i K.group.zero) (K.means x)) → drop (i + 1) new ≡ drop (i + 1) mid →
+      Books K i f old mid → Books K (i + 1) f old new
+  book_next mid new i x h is written rest books =
+      let fronts : FrontMeans K (table i sum) old mid = subst (λ ys. FrontMeans K ys old mid) (front-booked i (omega (arith, h))) books in
+      let past : drop i (map K.means mid) ≡ drop i (map K.means old) =
+          drop-map K.means i mid ∙ ap (map K.means) (front-past K (table i sum) i old mid fronts (length-table i sum)) ∙ sym (drop-map K.means i old)
+      in
+      let same : get_or (map K.means mid) i K.group.zero ≡ get_or (map K.means old) i K.group.zero =
+          ap (λ n. get_or (map K.means mid) n K.group.zero) (sym (add-zero i))
+          ∙ sym (get_or-drop i (map K.means mid) 0 K.group.zero)
+          ∙ ap (λ ys. get_or ys 0 K.group.zero) past
+          ∙ get_or-drop i (map K.means old) 0 K.group.zero
+          ∙ ap (λ n. get_or (map K.means old) n K.group.zero) (add-zero i)
+      in
+      subst (λ ys. FrontMeans K ys old new) (sym (front-booked (i + 1) (omega (arith, h))))
+      (front_more K sum old mid new i h (written ∙ ap (set (map K.means mid) i) (ap₂ K.group.add same is)) rest fronts)

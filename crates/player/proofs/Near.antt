@@ -25,12 +25,6 @@ module _ (G : Group) (L i n : ℕ) (f : ℕ → G.Carrier) (j : ℕ) where
   far : n ≤ back L i j → up_to G L i n f j ≡ G.zero
   far h = grind (arith, nat_tests)
 
--- every site stands up to any
-pub booked-all : (G : Group) (L i : ℕ) (f : ℕ → G.Carrier) (old : List G.Carrier) → length old ≡ L → i < L → booked G (up_to G L i L f) old ≡ booked G f old
-booked-all G L i f old size hi =
-    window_same (length old) (λ m. G.add (get_or old m G.zero) (up_to G L i L f m)) (λ m. G.add (get_or old m G.zero) (f m)) 0 0
-    (λ m h. ap (G.add (get_or old (0 + m) G.zero)) (near G L i L f (0 + m) (grind (arith, nat_tests, size))))
-
 module _ (G : Group) (L i n j : ℕ) (f : ℕ → G.Carrier) (old : List G.Carrier) (size : length old ≡ L) where
   abbrev so_far : ℕ → List G.Carrier
   so_far t = booked G (up_to G L i t f) old

@@ -72,12 +72,9 @@ module _ {C R D : Type 0} {c : ChargeOf C} {r : RuleOf R} {d : DensityOf D C} wh
       let b = holding_of s.crossings in crossing_at K (r.meaning (rule_of b)) (d.weights K (density_of b)) s.ring.cells.now
 
 module _ {C : Type 0} {K : Kind C} (b : Bench K) where
-  -- the charge of each site of a ring and its opposite, what crosses into it in a step, and what it gains by a letter in a cell
+  -- the charge of each site of a ring, what crosses into it in a step, and what it gains by a letter in a cell
   abbrev pub site_charges : List ℕ → ℕ → K.group.Carrier
   site_charges = charges K b.rule b.density
-
-  abbrev pub site_opposites : List ℕ → ℕ → K.group.Carrier
-  site_opposites cells i = K.group.neg (site_charges cells i)
 
   abbrev pub site_crossings : List ℕ → ℕ → K.group.Carrier
   site_crossings = crossing_at K b.rule b.density

@@ -2,7 +2,6 @@
 ghost use Rattle.std.specs.Prelude.{◌≡◌, ◌+◌, ◌<◌, ◌≤◌, map, length, take, drop, slice_set, slice_index_or};
 ghost use Rattle.automaton.specs.Words.{table};
 ghost use Rattle.criterion.specs.ChargeStrips.{FrontMeans};
-ghost use Rattle.player.specs.Calls.{booked};
 ghost use Rattle.player.specs.Near.{back, up_to};
 ghost use Rattle.player.specs.Promises.{Books};
 
@@ -134,8 +133,11 @@ pub(crate) fn book_up_to<C: Charge, S: SiteCharges<C>>(
 
 // Adds to the charges of the first `len` sites.
 pub(crate) fn book<C: Charge, S: SiteCharges<C>>(len: usize, strip: &mut [C], charges: &S)
-    requires { (1 ≤ len) × (len ≤ length strip.old) }
+    requires { len ≤ length strip.old }
     ensures { Books C.kind len (S.charges C.kind charges.now) strip.old strip.new }
 {
-    book_up_to(len, strip, len - 1, len, charges);
+    let mut ledger = Ledger::new(strip);
+    for i in 0..len {
+        ledger.add(i, charges.charge_at(i));
+    }
 }

@@ -1,12 +1,11 @@
 // Putting a letter into a cell of the open ring.
-ghost use Rattle.std.specs.Prelude.{◌≡◌, ◌<◌, ◌≤◌, min, [], map, length, take, Ok, Err, if◌then◌else◌, nat_lt, slice_set};
+ghost use Rattle.std.specs.Prelude.{◌≡◌, min, take, Ok, Err, if◌then◌else◌, nat_lt, slice_set};
 ghost use Rattle.fault.specs.declared.Stop.TheVariants.{BadLetter};
 ghost use Rattle.fault.specs.Answers.{plainly};
 ghost use Rattle.fault.specs.Refusals.{refused_at};
 ghost use Rattle.player.specs.Calls.PlayerCall.{touches};
-ghost use Rattle.player.specs.Near.{up_to};
 ghost use Rattle.player.specs.Answers.{done_said, Stays};
-ghost use Rattle.player.specs.Promises.{open_ring, ring_len, sites_ring, touch_strips, touch_gain, tested_by, site_charges, site_opposites, Books, DoesOn};
+ghost use Rattle.player.specs.Promises.{open_ring, ring_len, touch_strips, touch_gain, tested_by, Books, DoesOn};
 
 use crate::ledger::book_up_to;
 use crate::playing::Playing;
