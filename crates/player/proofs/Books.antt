@@ -117,14 +117,14 @@ module _ {C : Type 0} (K : Kind C) (f : ℕ → K.group.Carrier) (old : List C) 
   book_next mid new i x h is written rest books =
       let fronts : FrontMeans K (table i sum) old mid = subst (λ ys. FrontMeans K ys old mid) (front-booked i (omega (arith, h))) books in
       let past : drop i (map K.means mid) ≡ drop i (map K.means old) =
-          drop-map K.means i mid ∙ ap (map K.means) (front-past K (table i sum) i old mid fronts (length-table i sum)) ∙ sym (drop-map K.means i old)
+      drop-map K.means i mid ∙ ap (map K.means) (front-past K (table i sum) i old mid fronts (length-table i sum)) ∙ sym (drop-map K.means i old)
       in
       let same : get_or (map K.means mid) i K.group.zero ≡ get_or (map K.means old) i K.group.zero =
-          ap (λ n. get_or (map K.means mid) n K.group.zero) (sym (add-zero i))
-          ∙ sym (get_or-drop i (map K.means mid) 0 K.group.zero)
-          ∙ ap (λ ys. get_or ys 0 K.group.zero) past
-          ∙ get_or-drop i (map K.means old) 0 K.group.zero
-          ∙ ap (λ n. get_or (map K.means old) n K.group.zero) (add-zero i)
+      ap (λ n. get_or (map K.means mid) n K.group.zero) (sym (add-zero i))
+      ∙ sym (get_or-drop i (map K.means mid) 0 K.group.zero)
+      ∙ ap (λ ys. get_or ys 0 K.group.zero) past
+      ∙ get_or-drop i (map K.means old) 0 K.group.zero
+      ∙ ap (λ n. get_or (map K.means old) n K.group.zero) (add-zero i)
       in
       subst (λ ys. FrontMeans K ys old new) (sym (front-booked (i + 1) (omega (arith, h))))
       (front_more K sum old mid new i h (written ∙ ap (set (map K.means mid) i) (ap₂ K.group.add same is)) rest fronts)

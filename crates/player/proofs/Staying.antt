@@ -1,13 +1,11 @@
 -- The charges that a call and a script leave as they were: the charges themselves. Assumes nothing.
-use Rattle.std.proofs.Common.{◌≡◌, ℕ, ◌≤◌, max, Bool, true, false, cond, List, length, Some, None, Option, Result, Ok, Err, ◌∙◌, subst, arith}
+use Rattle.std.proofs.Common.{◌≡◌, ℕ, ◌≤◌, max, Bool, true, false, cond, List, length, Some, None, Option, ◌∙◌, subst, arith}
 use Rattle.std.specs.Option.{option_map}
-use Rattle.fault.specs.declared.Fault.{Fault}
 use Rattle.charge.specs.Groups.{Kind}
 use Rattle.automaton.specs.Meanings.{Local, Weights}
 use Rattle.player.specs.declared.call.Answer.{Answer}
 use Rattle.player.specs.declared.call.Answer.TheVariants.{Done, Reading as Read_as, Refused as Refused_by}
-use Rattle.player.specs.declared.meters.Reading.{Reading}
-use Rattle.player.specs.Answers.{answer_meant, done_or_refused, read_or_refused, Stays}
+use Rattle.player.specs.Answers.{answer_meant}
 use Rattle.player.specs.Calls.{PlayerCall, PlayerAnswer, PlayerStrips, size}
 use Rattle.player.specs.Calls.PlayerCall.{opens, touches, steps, reads, closes}
 use Rattle.player.specs.Calls.PlayerAnswer.{done, reading, refused}
@@ -106,20 +104,3 @@ module _ {C : Type 0} (K : Kind C) (r : Local) (d : Weights K.group.Carrier) whe
         past = stays-more (longest_opened p.log) m (written_after answer call L) old mid new (longer p.log call p.strips L) (written-within p.log call p.strips L stayed.standing_within answer said) stayed.past more;
         standing_within = subst (λ n. n ≤ m) (cells_stand K r d s script call) (cells-within p.log call p.strips L stayed.standing_within);
       }
-
--- what an accepted or refused call leaves of one strip of charges
-module _ {C : Type 0} where
-  pub touch-stays : (told : Result (Unit {0}) Fault) (L i a : ℕ) (old new : PlayerStrips C) → new.opening ≡ old.opening → new.crossed ≡ old.crossed →
-      Stays told L old.touched new.touched → StaysPast (written_after {C = C} (Some (done_or_refused told)) (touches i a) L) old new
-  touch-stays (Ok t) L i a old new o c s = (o, c, s)
-  touch-stays (Err f) L i a old new o c s = (o, c, s)
-
-  pub step-stays : (told : Result (Unit {0}) Fault) (L : ℕ) (old new : PlayerStrips C) → new.opening ≡ old.opening → new.touched ≡ old.touched →
-      Stays told L old.crossed new.crossed → StaysPast (written_after {C = C} (Some (done_or_refused told)) steps L) old new
-  step-stays (Ok t) L old new o u s = (o, s, u)
-  step-stays (Err f) L old new o u s = (o, s, u)
-
-  pub read-stays : (told : Result (Reading C) Fault) (L i : ℕ) (old new : PlayerStrips C) → (new.opening ≡ old.opening) × (new.crossed ≡ old.crossed) × (new.touched ≡ old.touched) →
-      StaysPast (written_after (Some (read_or_refused told)) (reads i) L) old new
-  read-stays (Ok m) L i old new same = same
-  read-stays (Err f) L i old new same = same

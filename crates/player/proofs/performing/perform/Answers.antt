@@ -31,17 +31,15 @@ returns-clause-crossings g c =
 pub returns-clause-logs : goal.returns-clause-logs
 returns-clause-logs g c = logs_true g.C.Charge.kind
 
-pub returns-clause-script : goal.returns-clause-script
-returns-clause-script g c =
+pub returns-clause-log : goal.returns-clause-log
+returns-clause-log g c =
     let K = g.C.Charge.kind in
     let a = c.args in
     let b = draft_bench a.draft in
     let handed = strips K a.cells.now a.spare.now a.opening.now a.crossed.now a.touched.now in
-    let told = judged_for (length a.script.now) (length a.answers.now) b (lent a.crossings.now a.ring.now) _ (lent c.perform_on.new.crossings c.perform_on.new.ring) c.perform_on.ensures.judged in (
-      c.perform_on.ensures.script,
-      subst (λ j. LogTrue b j (map call_meant a.script.now) handed) (sym told.answer)
-          (log_true K b.rule b.density (g.R.Rule.lawful a.draft.parts.rule) (g.D.Density.lawful K a.draft.parts.density) (sizes-pass a.draft.sizes b a.draft.sized) _ (map call_meant a.script.now) handed told.right),
-    )
+    let told = judged_for (length a.script.now) (length a.answers.now) b (lent a.crossings.now a.ring.now) _ (lent c.perform_on.new.crossings c.perform_on.new.ring) c.perform_on.ensures.judged in
+    subst (λ j. LogTrue b j (map call_meant a.script.now) handed) (sym told.answer)
+    (log_true K b.rule b.density (g.R.Rule.lawful a.draft.parts.rule) (g.D.Density.lawful K a.draft.parts.density) (sizes-pass a.draft.sizes b a.draft.sized) _ (map call_meant a.script.now) handed told.right)
 
 pub returns-clause-laws : goal.returns-clause-laws
 returns-clause-laws g c = (refusals_fit g.C.Charge.kind, steps_on g.C.Charge.kind)

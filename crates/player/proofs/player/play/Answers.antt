@@ -27,13 +27,13 @@ loop-i-preserved g c =
     let answer = c.obey-next.result.1 in
     let now = c.loop-i in
     let new = c.obey-next.new in
-    let said = told.said ∙ (λ j. said_to K (g.R.Rule.meaning (inv.0 j).parts.rule) (g.D.Density.weights K (inv.0 j).parts.density) (inv.1 j) call (inv.2 j)) in (
+    let said = told.obeys.said ∙ (λ j. said_to K (g.R.Rule.meaning (inv.0 j).parts.rule) (g.D.Density.weights K (inv.0 j).parts.density) (inv.1 j) call (inv.2 j)) in (
       told.bench ∙ inv.0,
-      told.cells
+      told.obeys.still_open
           ∙ (λ j. cells_after K (g.R.Rule.meaning (inv.0 j).parts.rule) (g.D.Density.weights K (inv.0 j).parts.density) (inv.1 j) call (inv.2 j))
           ∙ cells_stand K r d first (map call_meant (take i a.script.now)) call
           ∙ ap (λ p. length (standing p.log).cells) (sym more),
-      told.left
+      told.obeys.left
           ∙ (λ j. left_by K (g.R.Rule.meaning (inv.0 j).parts.rule) (g.D.Density.weights K (inv.0 j).parts.density) (inv.1 j) call (inv.2 j))
           ∙ ap (λ p. p.strips) (sym more),
       answers_more (option_map (answer_meant K)) now.answers i answer _ _ (omega arith) inv.3 said
@@ -44,5 +44,5 @@ loop-i-preserved g c =
           (stayed_more K r d first (map call_meant (take i a.script.now)) call answer (all_strips a.cells.now a.spare.now a.opening.now a.crossed.now a.touched.now)
           (all_strips now.cells now.spare now.opening now.crossed now.touched) (all_strips new.cells new.spare new.opening new.crossed new.touched)
           inv.5 said (subst (λ n. StaysPast (written_after answer call n) (all_strips now.cells now.spare now.opening now.crossed now.touched)
-          (all_strips new.cells new.spare new.opening new.crossed new.touched)) inv.1 told.charges)),
+          (all_strips new.cells new.spare new.opening new.crossed new.touched)) inv.1 told.obeys.charges)),
     )
