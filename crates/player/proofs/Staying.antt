@@ -12,7 +12,7 @@ use Rattle.player.specs.Calls.PlayerAnswer.{done, reading, refused}
 use Rattle.player.specs.Logs.{Log, allowed, accepted, standing, ring_opened, longest_opened}
 use Rattle.player.specs.Logs.Log.{◌then◌}
 use Rattle.player.specs.Obeying.{ChargesWritten, front_of_all, written_by, written_after, StaysPast}
-use Rattle.player.specs.Scripts.{Played, got, said_to, logged, still_open, cells_after, played_more, played}
+use Rattle.player.specs.Scripts.{PlayedScript, got, said_to, logged, still_open, cells_after, played_more, played}
 use Rattle.player.proofs.Books.{past-later}
 use Rattle.player.proofs.Scripts.{cells_stand}
 
@@ -87,7 +87,7 @@ module _ {C : Type 0} (K : Kind C) (r : Local) (d : Weights K.group.Carrier) whe
 
   -- What stays while a script is played: the charges past the longest ring that was opened, which is no shorter than the
   -- ring that is open.
-  pub record Stayed (p : Played K.group.Carrier) (old now : PlayerStrips C) : Type 0 where
+  pub record Stayed (p : PlayedScript K.group.Carrier) (old now : PlayerStrips C) : Type 0 where
     pub past : StaysPast (front_of_all (longest_opened p.log)) old now
     pub standing_within : length (standing p.log).cells ≤ longest_opened p.log
 

@@ -9,7 +9,7 @@ use Rattle.player.specs.Calls.{PlayerCall, PlayerAnswer, PlayerStrips}
 use Rattle.player.specs.Calls.PlayerCall.{opens, touches, steps, reads, closes}
 use Rattle.player.specs.Answers.{answer_meant}
 use Rattle.player.specs.Promises.{OpenRing, meant}
-use Rattle.player.specs.Scripts.{Played, said_to, left_by, cells_after, played}
+use Rattle.player.specs.Scripts.{PlayedScript, said_to, left_by, cells_after, played}
 
 module _ {C : Type 0} {K : Kind C} (ring : OpenRing K) (call : PlayerCall) (s : PlayerStrips C) where
   -- the answer, the strips as they are left, and how many cells the ring has that is open then
@@ -63,5 +63,5 @@ pub record ObeysOn {C : Type 0} {K : Kind C} (ring : OpenRing K) (call : PlayerC
   pub charges : StaysPast (written_after answer call ring.len) old new
 
 -- a script that is played on a bench
-abbrev pub played_on : {C : Type 0} {K : Kind C} → Bench K → PlayerStrips C → List PlayerCall → Played K.group.Carrier
+abbrev pub played_on : {C : Type 0} {K : Kind C} → Bench K → PlayerStrips C → List PlayerCall → PlayedScript K.group.Carrier
 played_on {C} {K} b s script = played K b.rule b.density (meant K s) script

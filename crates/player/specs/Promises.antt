@@ -20,7 +20,7 @@ use Rattle.player.specs.declared.ledger.Ledger.{Ledger}
 use Rattle.player.specs.declared.playing.Playing.{Playing}
 use Rattle.player.specs.declared.sites.Sites.{Sites}
 use Rattle.player.specs.declared.sites.CrossingCharges.{CrossingCharges}
-use Rattle.player.specs.Answers.{strips, of_player, open_cells}
+use Rattle.player.specs.Answers.{of_player, open_cells}
 use Rattle.player.specs.Calls.{PlayerCall, PlayerAnswer, PlayerRing, PlayerStrips, charges, crossing_at, booked, call_checked, Does}
 use Rattle.player.specs.Calls.PlayerCall.{closes}
 use Rattle.player.specs.Calls.PlayerAnswer.{done}
@@ -112,7 +112,13 @@ SameStrip l m = m.sites.ghost_name ≡ l.sites.ghost_name
 
 -- strips by what their charges mean
 abbrev pub meant : {C : Type 0} → (K : Kind C) → PlayerStrips C → PlayerStrips K.group.Carrier
-meant K s = strips K s.cells s.spare s.opening s.crossed s.touched
+meant K s = record {
+  cells = s.cells;
+  spare = s.spare;
+  opening = map K.means s.opening;
+  crossed = map K.means s.crossed;
+  touched = map K.means s.touched;
+}
 
 module _ {C : Type 0} {K : Kind C} (ring : OpenRing K) where
   -- the refusal of a call, if there is one, by the strips that it is handed

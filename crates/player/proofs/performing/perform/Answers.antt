@@ -2,7 +2,8 @@ use Rattle.std.proofs.Common.{length, map, sym, subst}
 use Rattle.bench.specs.States.{draft_bench}
 use Rattle.bench.specs.Verdicts.{lent}
 use Rattle.bench.proofs.Searches.{sizes-pass}
-use Rattle.player.specs.Answers.{strips, call_meant}
+use Rattle.player.specs.Answers.{call_meant}
+use Rattle.player.specs.Promises.{all_strips, meant}
 use Rattle.player.specs.Whole.{VerdictTrue, CrossingsTrue, LogTrue}
 use Rattle.player.proofs.Logs.{logs_true}
 use Rattle.player.proofs.Refusals.{refusals_fit}
@@ -36,7 +37,7 @@ returns-clause-log g c =
     let K = g.C.Charge.kind in
     let a = c.args in
     let b = draft_bench a.draft in
-    let handed = strips K a.cells.now a.spare.now a.opening.now a.crossed.now a.touched.now in
+    let handed = meant K (all_strips a.cells.now a.spare.now a.opening.now a.crossed.now a.touched.now) in
     let told = judged_for (length a.script.now) (length a.answers.now) b (lent a.crossings.now a.ring.now) _ (lent c.perform_on.new.crossings c.perform_on.new.ring) c.perform_on.ensures.judged in
     subst (λ j. LogTrue b j (map call_meant a.script.now) handed) (sym told.answer)
     (log_true K b.rule b.density (g.R.Rule.lawful a.draft.parts.rule) (g.D.Density.lawful K a.draft.parts.density) (sizes-pass a.draft.sizes b a.draft.sized) _ (map call_meant a.script.now) handed told.right)

@@ -1,9 +1,9 @@
 use Rattle.std.proofs.Common.{◌<◌, map, length, take, get_or, sym, ap, ◌∙◌, subst, arith}
 use Rattle.std.specs.Option.{option_map}
 use Rattle.player.specs.Logs.{standing}
-use Rattle.player.specs.Answers.{strips, call_meant, answer_meant}
+use Rattle.player.specs.Answers.{call_meant, answer_meant}
 use Rattle.player.specs.Obeying.{written_after, StaysPast}
-use Rattle.player.specs.Promises.{all_strips}
+use Rattle.player.specs.Promises.{all_strips, meant}
 use Rattle.player.specs.Scripts.{said_to, left_by, cells_after}
 use Rattle.player.proofs.Books.{past-set}
 use Rattle.player.proofs.Plays.{script_more, answers_more}
@@ -18,7 +18,7 @@ loop-i-preserved g c =
     let i = c.loop-i.i in
     let r = g.R.Rule.meaning a.bench.parts.rule in
     let d = g.D.Density.weights K a.bench.parts.density in
-    let first = strips K a.cells.now a.spare.now a.opening.now a.crossed.now a.touched.now in
+    let first = meant K (all_strips a.cells.now a.spare.now a.opening.now a.crossed.now a.touched.now) in
     let inv = c.loop-i.invariant in
     let told = c.obey-next.ensures in
     let within : i < length a.script.now = omega arith in

@@ -1,9 +1,9 @@
-use Rattle.std.proofs.Common.{ℕ, List, [], map, take, subst}
+use Rattle.std.proofs.Common.{ℕ, List, map, take, subst}
 use Rattle.automaton.specs.Meanings.{Local, Weights}
 use Rattle.criterion.specs.ChargeStrips.{FrontMeans}
 use Rattle.player.specs.Calls.{booked, crossing_at}
 use Rattle.player.specs.Calls.PlayerCall.{steps}
-use Rattle.player.specs.Answers.{strips}
+use Rattle.player.specs.Promises.{meant, step_strips}
 use Rattle.player.proofs.Passed.{letters_passed}
 use Rattle.player.proofs.playing.Playing.step_on.Goals as goal
 
@@ -11,7 +11,7 @@ pub sites-requires-clause-letters : goal.sites-requires-clause-letters
 sites-requires-clause-letters g c =
     let K = g.C.Charge.kind in
     let a = c.args in
-    letters_passed (g.R.Rule.meaning a.self.now.bench.parts.rule).q a.self.now.len steps (strips K a.cells.now a.spare.now [] a.crossed.now []) c.requires
+    letters_passed (g.R.Rule.meaning a.self.now.bench.parts.rule).q a.self.now.len steps (meant K (step_strips a.cells.now a.spare.now a.crossed.now)) c.requires
 
 pub returns-clause-crossed : goal.returns-clause-crossed
 returns-clause-crossed g c =

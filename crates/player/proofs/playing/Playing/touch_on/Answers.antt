@@ -1,4 +1,4 @@
-use Rattle.std.proofs.Common.{ℕ, min, length, List, [], take, set, ◌≡◌, sym, ◌∙◌, subst, arith}
+use Rattle.std.proofs.Common.{ℕ, min, length, List, take, set, ◌≡◌, sym, ◌∙◌, subst, arith}
 use Rattle.std.proofs.lemmas.List.{length-map, length-take-le}
 use Rattle.std.proofs.Math.Seq.{take-set-lt}
 use Rattle.automaton.specs.Words.{Letters}
@@ -6,9 +6,8 @@ use Rattle.automaton.specs.Meanings.{Local, Weights}
 use Rattle.bench.specs.States.{holding_bench}
 use Rattle.player.specs.Calls.{charges}
 use Rattle.player.specs.Calls.PlayerCall.{touches}
-use Rattle.player.specs.Answers.{strips}
 use Rattle.player.specs.Near.{up_to}
-use Rattle.player.specs.Promises.{touch_gain, Books}
+use Rattle.player.specs.Promises.{touch_gain, Books, meant, touch_strips}
 use Rattle.player.proofs.Passed.{letters_passed, front_below, last_below, touches_fit}
 use Rattle.player.proofs.Kept.{letters_set}
 use Rattle.player.proofs.Touches.{front-twice}
@@ -20,14 +19,14 @@ sites-requires-clause-letters g c =
     let K = g.C.Charge.kind in
     let a = c.args in
     let q = (g.R.Rule.meaning a.self.now.bench.parts.rule).q in
-    front_below q (take a.self.now.len a.cells.now) _ (letters_passed q a.self.now.len (touches a.site a.letter) (strips K a.cells.now [] [] [] a.touched.now) c.requires)
+    front_below q (take a.self.now.len a.cells.now) _ (letters_passed q a.self.now.len (touches a.site a.letter) (meant K (touch_strips a.cells.now a.touched.now)) c.requires)
 
 pub sites-requires-2-clause-letters : goal.sites-requires-2-clause-letters
 sites-requires-2-clause-letters g c =
     let K = g.C.Charge.kind in
     let a = c.args in
     let q = (g.R.Rule.meaning a.self.now.bench.parts.rule).q in
-    let handed = strips K a.cells.now [] [] [] a.touched.now in
+    let handed = meant K (touch_strips a.cells.now a.touched.now) in
     let below = letters_passed q a.self.now.len (touches a.site a.letter) handed c.requires in
     let fit = touches_fit q a.self.now.len a.site a.letter handed c.requires in
     subst (Letters q) (sym (take-set-lt a.self.now.len a.cells.now a.site a.letter fit.2))
@@ -41,7 +40,7 @@ returns-clause-touched g c =
     let L = a.self.now.len in
     let r = g.R.Rule.meaning a.self.now.bench.parts.rule in
     let d = g.D.Density.weights K a.self.now.bench.parts.density in
-    let fit = touches_fit r.q L a.site a.letter (strips K a.cells.now [] [] [] a.touched.now) c.requires in
+    let fit = touches_fit r.q L a.site a.letter (meant K (touch_strips a.cells.now a.touched.now)) c.requires in
     let front = take L a.cells.now in
     let size : length front ≡ L = length-take-le L a.cells.now fit.0 in
     let count = c.holders-count.ensures in
