@@ -8,7 +8,7 @@ ghost use Rattle.player.specs.Promises.{Books};
 use crate::sites::SiteCharges;
 use charge::Charge;
 
-// One charge a site, over a strip lent for writing.
+/// A site ledger: one charge a site, over a strip that is lent for writing. Its questions take it for writing too.
 #[derive(Drop)]
 pub struct Ledger<'a, C> {
     sites: &'a mut [C],
@@ -17,7 +17,7 @@ pub struct Ledger<'a, C> {
 impl<'a, C: Charge> Ledger<'a, C> {
     ghost use Rattle.player.specs.Promises.{ledger_charges, IsOver, SameStrip};
 
-    // The ledger of as many sites as the strip has charges.
+    /// The ledger of as many sites as the strip has charges. Nothing is written.
     pub fn new(sites: &'a mut [C]) -> Ledger<'a, C>
         ensures sites { ledger_charges result ≡ sites.old }
         ensures same { IsOver sites.entry result }
@@ -25,7 +25,7 @@ impl<'a, C: Charge> Ledger<'a, C> {
         Ledger { sites }
     }
 
-    // How many sites there are.
+    /// How many sites there are.
     pub fn len(&mut self) -> usize
         ensures answer { result ≡ length (ledger_charges self.old) }
         ensures kept { self.new ≡ self.old }
@@ -33,7 +33,7 @@ impl<'a, C: Charge> Ledger<'a, C> {
         self.sites.len()
     }
 
-    // The charge of site i, and zero past the last site.
+    /// The charge of site i, counted from 0, and zero past the last site.
     pub fn at(&mut self, i: usize) -> C
         ensures answer { let old = map C.kind.means (ledger_charges self.old) in
             C.kind.means result ≡ slice_index_or old i C.kind.group.zero }
@@ -46,7 +46,7 @@ impl<'a, C: Charge> Ledger<'a, C> {
         }
     }
 
-    // Writes the charge of site i. Past the last site nothing is written.
+    /// Writes the charge of site i. Past the last site nothing is written.
     pub fn put(&mut self, i: usize, charge: C)
         ensures sites { ledger_charges self.new ≡ slice_set (ledger_charges self.old) i charge }
         ensures same { SameStrip self.old self.new }
@@ -67,7 +67,7 @@ impl<'a, C: Charge> Ledger<'a, C> {
         self.at(i).plus(charge)
     }
 
-    // Adds to the charge of site i. Past the last site nothing is written.
+    /// Adds to the charge of site i. Past the last site nothing is written.
     pub fn add(&mut self, i: usize, charge: C)
         ensures sites { let old = map C.kind.means (ledger_charges self.old) in
             let own = slice_index_or old i C.kind.group.zero in

@@ -70,8 +70,12 @@ fn open_on<C: Charge, R: Rule, D: Density<C>>(
 }
 
 impl<C: Charge, R: Rule, D: Density<C>> Playing<C, R, D> {
-    // Copies a ring to the cells, writes each site's charge to opening, and sets crossed and touched to zero. The bench
-    // holds, so each line of every log of it without gaps is true.
+    /// Opens a ring of L letters, one a cell: copies it to the cells, writes each site's charge to opening, and sets
+    /// crossed and touched to zero at each site. The bench holds, so each line of every log of it without gaps is true.
+    ///
+    /// The bench comes back, refused by the first that fits: `Stop::BadLength` where L is 0 or above
+    /// `fault::MOST_CELLS`, `Stop::ShortStrip` where a strip has fewer than L entries, both at place 0, and
+    /// `Stop::BadLetter` at the first letter that is not below the alphabet size.
     pub fn open(
         bench: Holding<C, R, D>,
         ring: &[u8],

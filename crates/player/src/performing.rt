@@ -16,7 +16,8 @@ use bench::{Breaking, Draft, Refused, Verdict};
 use charge::Charge;
 use fault::Stop;
 
-// A bench that was judged, and where it holds was played on.
+/// A bench that was judged, and where it holds was played on: with no ring open, or with the one that the script left
+/// open.
 pub type Performed<C, R, D> = Verdict<C, PlayerOf<C, R, D>, Breaking<C, R, D>>;
 
 // Judges a bench, and plays a script where it holds. Apart from `perform`, whose theorems need answers of their own.
@@ -55,10 +56,15 @@ fn perform_on<C: Charge, R: Rule, D: Density<C>>(
     }
 }
 
-// Judges a bench, and where it holds answers each call of a script, in the order of the script; a call that the states do
-// not allow has no answer. The strips are as the judge and the player lend them, and one more is for the answers. Only a
-// strip of the judge or of the answers that is too short is refused; the player's are refused call by call. The charges
-// past the longest ring that the script opened stay as they were, and so do all where it opened none.
+/// Judges a bench, and where it holds answers each call of a script, in the order of the script, as `obey` does: answer
+/// i is that to call i, and `None` where the state did not allow the call.
+///
+/// `crossings` and `ring` are the strips of `Draft::judge`; the five strips after them are the player's, of any
+/// lengths, which are refused call by call; `answers` has an entry a call. Where it has fewer the draft comes back,
+/// refused by `Stop::ShortStrip` at place 0, and so it does where a strip of the judge is too short.
+///
+/// Past the script's answers, and past the longest ring that it opened, what answers and charges there were stay.
+/// Unless the bench holds, the player's strips and the answers stay as they were.
 pub fn perform<C: Charge, R: Rule, D: Density<C>>(
     draft: Draft<C, R, D>,
     script: &[Call<'_>],

@@ -16,14 +16,16 @@ use bench::Holding;
 use charge::Charge;
 use fault::Fault;
 
-// A bench that holds: H where no ring is open on it, and P where one is.
+/// A bench that holds, in one of two states.
 #[derive(Drop)]
 pub enum Player<H, P> {
+    /// No ring is open on it.
     Idle(H),
+    /// A ring is open on it.
     Playing(P),
 }
 
-// A holding bench in either state.
+/// A holding bench in either state: what `obey` takes and gives back, and what `perform` leaves.
 pub type PlayerOf<C, R, D> = Player<Holding<C, R, D>, Playing<C, R, D>>;
 
 fn done_or_refused<C: Charge>(done: Result<(), Fault>) -> Answer<C>
@@ -108,8 +110,12 @@ fn obey_playing<C: Charge, R: Rule, D: Density<C>>(
     }
 }
 
-// Answers a call. One that the state does not allow has no answer. The bench holds, so each line of every log of it without
-// gaps is true.
+/// Answers one call. Where no ring is open, only an open is allowed, and where one is, all but an open: a call that the
+/// state does not allow has no answer and does nothing. What is refused, at which place, and what is written is as each
+/// call of `Playing` has it; of the five strips a call looks only at those that it takes there.
+///
+/// An open that is refused leaves no ring open, and every other refusal leaves the ring open. The bench holds, so each
+/// line of every log of it without gaps is true.
 #[tactic(auto, using(crate::proofs::HoldingLogs::holding_logs))]
 pub fn obey<C: Charge, R: Rule, D: Density<C>>(
     player: PlayerOf<C, R, D>,

@@ -64,8 +64,11 @@ impl<C: Charge, R: Rule, D: Density<C>> Playing<C, R, D> {
         }
     }
 
-    // A site's opening, crossed and touched charges, and its charge now. Nothing is written: the strips of charges are
-    // taken for writing, as ledgers take them.
+    /// Reads the meters of a site of the ring of L cells. Nothing is written.
+    ///
+    /// Refused by the first that fits: `Stop::ShortStrip` where a strip has fewer than L entries and
+    /// `Stop::BadPosition` where the site is not below L, both at place 0, and `Stop::BadLetter` at the first cell that
+    /// holds no letter.
     pub fn read(
         &self,
         site: usize,

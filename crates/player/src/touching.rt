@@ -67,7 +67,12 @@ impl<C: Charge, R: Rule, D: Density<C>> Playing<C, R, D> {
         book_up_to(self.len, touched, site, count, &self.sites(cells));
     }
 
-    // Puts a letter into a cell. At each site it adds to touched the site's charge afterwards less its charge before.
+    /// Puts a letter into a cell of the ring of L cells. At each site it adds to touched the site's charge afterwards
+    /// less its charge before, which is zero but where the site's window holds the cell.
+    ///
+    /// Refused by the first that fits: `Stop::ShortStrip` where a strip has fewer than L entries and
+    /// `Stop::BadPosition` where the cell is not below L, both at place 0, and `Stop::BadLetter` at the first cell that
+    /// holds no letter, or at place L where all do and the one to be put is none.
     pub fn touch(
         &self,
         site: usize,
