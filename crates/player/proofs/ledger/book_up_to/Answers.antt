@@ -4,11 +4,9 @@ use Rattle.player.proofs.ledger.book_up_to.Goals as goal
 
 pub loop-t-init : goal.loop-t-init
 loop-t-init g c =
-    let K = g.C.Charge.kind in
     let a = c.args in
-    let old = c.new-ledger.result.sites.now in
-    let room : a.len ≤ length old = omega (arith, c.requires.0, ap length c.new-ledger.ensures.sites) in
-    (book_none K a.len a.i (g.S.SiteCharges.charges K a.charges.now) old room, refl)
+    let size = ap length c.new-ledger.ensures.sites in
+    (book_none g.C.Charge.kind a.len a.i (g.S.SiteCharges.charges g.C.Charge.kind a.charges.now) c.new-ledger.result.sites.now (omega (arith, c.requires.0, size)), refl)
 
 pub loop-t-preserved : goal.loop-t-preserved
 loop-t-preserved g c =
