@@ -7,7 +7,7 @@ use Rattle.charge.specs.Groups.{Kind}
 use Rattle.automaton.specs.Meanings.{Local, Weights}
 use Rattle.player.specs.Calls.{PlayerCall, PlayerAnswer, PlayerStrips}
 use Rattle.player.specs.Logs.{standing}
-use Rattle.player.specs.Scripts.{Played, logged, left_by, cells_after, played_more, played}
+use Rattle.player.specs.Scripts.{PlayedScript, logged, left_by, cells_after, played_more, played}
 use Rattle.player.proofs.Scripts.{cells_stand}
 use Rattle.capi.specs.Scripts.{Asking, obeyed, session, Obeys}
 
@@ -20,16 +20,16 @@ calls_in (Err f ∷ script) = calls_in script
 
 module _ {C : Type 0} (K : Kind C) (r : Local) (d : Weights K.group.Carrier) where
   -- one log, and strips that are left alike
-  abbrev Alike : Played K.group.Carrier → Played K.group.Carrier → Type 0
+  abbrev Alike : PlayedScript K.group.Carrier → PlayedScript K.group.Carrier → Type 0
   Alike p q = (p.log ≡ q.log) × (p.strips ≡ q.strips)
 
-  alike_more : (p q : Played K.group.Carrier) → Alike p q → (call : PlayerCall) → Alike (played_more K r d p call) (played_more K r d q call)
+  alike_more : (p q : PlayedScript K.group.Carrier) → Alike p q → (call : PlayerCall) → Alike (played_more K r d p call) (played_more K r d q call)
   alike_more p q same call = (
     (λ j. logged K r d (length (standing (same.0 j)).cells) call (same.1 j) (same.0 j)),
     (λ j. left_by K r d (length (standing (same.0 j)).cells) call (same.1 j)),
   )
 
-  alike : (p q : Played K.group.Carrier) → Alike p q → (script : List Asking) → Alike (fold (obeyed K r d) p script) (fold (played_more K r d) q (calls_in script))
+  alike : (p q : PlayedScript K.group.Carrier) → Alike p q → (script : List Asking) → Alike (fold (obeyed K r d) p script) (fold (played_more K r d) q (calls_in script))
   alike p q same [] = same
   alike p q same (Ok (Some call) ∷ script) = alike (played_more K r d p call) (played_more K r d q call) (alike_more p q same call) script
   alike p q same (Ok None ∷ script) = alike (obeyed K r d p (Ok None)) q same script

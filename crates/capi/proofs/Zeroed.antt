@@ -5,7 +5,7 @@ use Rattle.charge.specs.Groups.{Kind}
 use Rattle.preset.specs.Sending.{Sending}
 use Rattle.preset.specs.declared.entry.Entry.{Entry}
 use Rattle.preset.specs.declared.header.Header.{Header}
-use Rattle.player.specs.Answers.{strips}
+use Rattle.player.specs.Promises.{all_strips, meant}
 use Rattle.capi.specs.declared.answers.JudgeAnswer.{JudgeAnswer}
 use Rattle.capi.specs.declared.answers.ScriptAnswer.{ScriptAnswer}
 use Rattle.capi.specs.Scripts.{Asking}
@@ -18,7 +18,7 @@ all-mean f x (suc n) = ap (λ xs. f x ∷ xs) (all-mean f x n)
 pub played-zeroed : {C : Type 0} (K : Kind C) (S : Sending C) (h : Header) (letters : List ℕ) (entries : List Entry) (script : List Asking)
     (cells left : List ℕ) (old new : List ScriptAnswer) (answer : JudgeAnswer) (none : C) → K.means none ≡ K.group.zero →
     let clear = replicate most_cells none in
-    PlayedOn K S h letters entries script left old new (strips K cells (replicate most_cells 0) clear clear clear) answer → PlayedZeroed K S h letters entries script cells left old new answer
+    PlayedOn K S h letters entries script left old new (meant K (all_strips cells (replicate most_cells 0) clear clear clear)) answer → PlayedZeroed K S h letters entries script cells left old new answer
 played-zeroed K S h letters entries script cells left old new answer none is =
     let e : map K.means (replicate most_cells none) ≡ replicate most_cells K.group.zero = all-mean K.means none most_cells ∙ ap (replicate most_cells) is in
     subst (λ s. PlayedOn K S h letters entries script left old new s answer)

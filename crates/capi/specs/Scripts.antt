@@ -16,7 +16,7 @@ use Rattle.player.specs.Calls.PlayerCall.{opens, touches, steps, reads, closes}
 use Rattle.player.specs.Calls.PlayerAnswer.{refused}
 use Rattle.player.specs.Logs.{allowed, standing}
 use Rattle.player.specs.Logs.Log.{made}
-use Rattle.player.specs.Scripts.{Played, said_to, left_by, cells_after, played_more}
+use Rattle.player.specs.Scripts.{PlayedScript, said_to, left_by, cells_after, played_more}
 use Rattle.capi.specs.declared.script.ScriptCall.{ScriptCall}
 
 -- what a struct asks: a call of the player's, nothing, or an open that has no ring to hand over, by its refusal
@@ -49,7 +49,7 @@ abbrev pub refused_open : {A : Type 0} → ℕ → Refusal → Option (PlayerAns
 refused_open L f = cond (allowed (opens []) L) (Some (refused f)) None
 
 -- an answer that is no line of the log
-abbrev pub unplayed : {A : Type 0} → Played A → Option (PlayerAnswer A) → Played A
+abbrev pub unplayed : {A : Type 0} → PlayedScript A → Option (PlayerAnswer A) → PlayedScript A
 unplayed p a = record { log = p.log; strips = p.strips; said = p.said ++ (a ∷ []) }
 
 -- strips with the caller's cells; the others are of zeros and as long as the longest ring
@@ -64,13 +64,13 @@ zeroed K cells = record {
 
 module _ {C : Type 0} (K : Kind C) (r : Local) (d : Weights K.group.Carrier) where
   -- one struct more; what asks nothing has no answer
-  abbrev pub obeyed : Played K.group.Carrier → Asking → Played K.group.Carrier
+  abbrev pub obeyed : PlayedScript K.group.Carrier → Asking → PlayedScript K.group.Carrier
   obeyed p (Ok (Some call)) = played_more K r d p call
   obeyed p (Ok None) = unplayed p None
   obeyed p (Err f) = unplayed p (refused_open (length (standing p.log).cells) f)
 
   -- a script played from the making of a bench on
-  abbrev pub session : PlayerStrips K.group.Carrier → List Asking → Played K.group.Carrier
+  abbrev pub session : PlayerStrips K.group.Carrier → List Asking → PlayedScript K.group.Carrier
   session s script = fold obeyed (record { log = made; strips = s; said = [] }) script
 
   -- what is answered where a ring of L cells is open, how the strips are left, and how many cells the ring has then

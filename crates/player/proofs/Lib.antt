@@ -13,7 +13,7 @@ pub mod HoldingLogs
 pub mod Refusals
 pub mod Steps
 pub mod Scripts
-pub mod Wide
+pub mod Obeyed
 pub mod Plays
 pub mod Staying
 pub mod Whole

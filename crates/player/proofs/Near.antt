@@ -25,7 +25,7 @@ module _ (G : Group) (L i n : ℕ) (f : ℕ → G.Carrier) (j : ℕ) where
   far : n ≤ back L i j → up_to G L i n f j ≡ G.zero
   far h = grind (arith, nat_tests)
 
-module _ {C : Type 0} (G : Group) (means : C → G.Carrier) (L i n j : ℕ) (f : ℕ → G.Carrier) (old : List G.Carrier) (size : length old ≡ L) where
+module _ (G : Group) (L i n j : ℕ) (f : ℕ → G.Carrier) (old : List G.Carrier) (size : length old ≡ L) where
   abbrev so_far : ℕ → List G.Carrier
   so_far t = booked G (up_to G L i t f) old
 

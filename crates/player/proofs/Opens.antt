@@ -9,21 +9,21 @@ use Rattle.criterion.specs.ChargeStrips.{FrontMeans}
 use Rattle.player.specs.Calls.{charges, call_checked, worked, Does}
 use Rattle.player.specs.Calls.PlayerCall.{opens}
 use Rattle.player.specs.Calls.PlayerAnswer.{done}
-use Rattle.player.specs.Answers.{strips}
+use Rattle.player.specs.Promises.{meant, meter_strips}
 use Rattle.player.proofs.Books.{front-means, front-past}
 use Rattle.player.proofs.Works.{does_work}
 
 -- a ring `shown` that is the ring that open is given
 module _ {C : Type 0} (K : Kind C) (r : Local) (d : Weights K.group.Carrier) (ring shown cells cells' : List ℕ) (opening crossed touched opening' crossed' touched' : List C) where
   -- what an opening that has passed leaves
-  pub opens_does : call_checked r.q (length ring) (opens ring) (strips K cells [] opening crossed touched) ≡ Ok tt → shown ≡ ring → cells' ≡ at_front shown cells →
+  pub opens_does : call_checked r.q (length ring) (opens ring) (meant K (meter_strips cells opening crossed touched)) ≡ Ok tt → shown ≡ ring → cells' ≡ at_front shown cells →
       FrontMeans K (table (length shown) (charges K r d shown)) opening opening' →
       FrontMeans K (table (length shown) (λ _. K.group.zero)) crossed crossed' →
       FrontMeans K (table (length shown) (λ _. K.group.zero)) touched touched' →
-      Does K r d (length ring) (opens ring) (strips K cells [] opening crossed touched) done (strips K cells' [] opening' crossed' touched')
+      Does K r d (length ring) (opens ring) (meant K (meter_strips cells opening crossed touched)) done (meant K (meter_strips cells' opening' crossed' touched'))
   opens_does ready same c o x t =
-      does_work K r d (length ring) (opens ring) (strips K cells [] opening crossed touched) done (strips K cells' [] opening' crossed' touched') ready
-      (subst (λ w. worked K r d (length w) (opens w) (strips K cells [] opening crossed touched) ≡ record { said = done; left = strips K cells' [] opening' crossed' touched' }) same
+      does_work K r d (length ring) (opens ring) (meant K (meter_strips cells opening crossed touched)) done (meant K (meter_strips cells' opening' crossed' touched')) ready
+      (subst (λ w. worked K r d (length w) (opens w) (meant K (meter_strips cells opening crossed touched)) ≡ record { said = done; left = meant K (meter_strips cells' opening' crossed' touched') }) same
       (λ i. record {
         said = done;
         left = record {

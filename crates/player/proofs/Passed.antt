@@ -14,7 +14,7 @@ use Rattle.automaton.specs.Words.{Letters}
 use Rattle.automaton.proofs.Passes.{ring-letters}
 use Rattle.player.specs.Calls.{PlayerCall, PlayerStrips, tests, call_letters, call_checked}
 use Rattle.player.specs.Calls.PlayerCall.{touches, steps}
-use Rattle.player.specs.Answers.{strips}
+use Rattle.player.specs.Promises.{meant, touch_strips}
 
 -- the second of two tests, where both have passed
 second : {X Y : Type 0} (x : Result X Refusal) (y : Result Y Refusal) (t : Y) → and_then x (λ _. y) ≡ Ok t → y ≡ Ok t
@@ -54,7 +54,7 @@ fits-push fits stop (x ∷ xs) a i =
 -- the call_letters of a touch, where its other tests have passed
 module _ {C : Type 0} (K : Kind C) (q L i a : ℕ) (cells : List ℕ) (touched : List C) (room : L ≤ min (length cells) (length touched)) (on : i < L) where
   abbrev handed : PlayerStrips K.group.Carrier
-  handed = strips K cells [] [] [] touched
+  handed = meant K (touch_strips cells touched)
 
   touch-tests : call_checked q L (touches i a) handed ≡ each_fits (λ x. ltb x q) BadLetter 0 (take L cells ++ (a ∷ []))
   touch-tests =

@@ -1,6 +1,6 @@
 -- A script that is played call by call. Assumes nothing.
-use Rattle.std.proofs.Common.{◌≡◌, ℕ, ◌+◌, ◌<◌, List, [], ◌∷◌, ◌++◌, map, length, get_or, take, drop, set, sym, ap, ◌∙◌, ap₂, arith}
-use Rattle.std.proofs.lemmas.List.{map_push, take_more, take_more_set, drop-set-lt, drop-drop}
+use Rattle.std.proofs.Common.{◌≡◌, ℕ, ◌+◌, ◌<◌, List, [], ◌∷◌, ◌++◌, map, length, get_or, take, set, ap, ◌∙◌, ap₂}
+use Rattle.std.proofs.lemmas.List.{map_push, take_more, take_more_set}
 use Rattle.charge.specs.Groups.{Kind}
 use Rattle.automaton.specs.Meanings.{Local, Weights}
 use Rattle.player.specs.Calls.{PlayerCall, PlayerStrips}
@@ -20,8 +20,3 @@ pub answers_more : {X Y : Type 0} (f : X → Y) (answers : List X) (i : ℕ) (x 
     map f (take (i + 1) (set answers i x)) ≡ said ++ (y ∷ [])
 answers_more f answers i x said y h so_far is =
     ap (map f) (take_more_set answers i x h) ∙ map_push f (take i answers) x ∙ ap₂ (λ t z. t ++ (z ∷ [])) so_far is
-
--- the answers that are not yet given
-pub answers_past : {X : Type 0} (answers old : List X) (i : ℕ) (x : X) → drop i answers ≡ drop i old → drop (i + 1) (set answers i x) ≡ drop (i + 1) old
-answers_past answers old i x e =
-    drop-set-lt (i + 1) answers i x (omega arith) ∙ sym (drop-drop 1 i answers) ∙ ap (drop 1) e ∙ drop-drop 1 i old

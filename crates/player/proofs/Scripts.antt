@@ -10,7 +10,7 @@ use Rattle.player.specs.Calls.PlayerCall.{opens, touches, steps, reads, closes}
 use Rattle.player.specs.Calls.PlayerAnswer.{refused}
 use Rattle.player.specs.Logs.{LogLine, Log, allowed, ended, used, accepted, standing, HandedOn, WithoutGaps}
 use Rattle.player.specs.Logs.Log.{◌then◌}
-use Rattle.player.specs.Scripts.{Played, got, left_by, logged, still_open, cells_after, played_more, played}
+use Rattle.player.specs.Scripts.{PlayedScript, got, left_by, logged, still_open, cells_after, played_more, played}
 use Rattle.player.proofs.Logs.{front_again, ring_same}
 
 -- where a ring is open, it is the ring_in of the strips
@@ -121,7 +121,7 @@ module _ {C : Type 0} (K : Kind C) (r : Local) (d : Weights K.group.Carrier) whe
       )
       go false order = whole
 
-  played_whole : (p : Played K.group.Carrier) → Whole p.log p.strips → (script : List PlayerCall) →
+  played_whole : (p : PlayedScript K.group.Carrier) → Whole p.log p.strips → (script : List PlayerCall) →
       let q = fold (played_more K r d) p script in Whole q.log q.strips
   played_whole p whole [] = whole
   played_whole p whole (call ∷ script) = played_whole (played_more K r d p call) (more_whole p.log p.strips call whole) script
@@ -139,7 +139,7 @@ module _ {C : Type 0} (K : Kind C) (r : Local) (d : Weights K.group.Carrier) whe
       cells_after K r d (length (standing p.log).cells) call p.strips ≡ length (standing (played_more K r d p call).log).cells
   cells_stand s script call = go (allowed call L) refl
     where
-      p : Played K.group.Carrier
+      p : PlayedScript K.group.Carrier
       p = played K r d s script
 
       L : ℕ

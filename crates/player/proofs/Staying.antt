@@ -1,30 +1,20 @@
 -- The charges that a call and a script leave as they were: the charges themselves. Assumes nothing.
-use Rattle.std.proofs.Common.{◌≡◌, ℕ, ◌+◌, ◌-◌, ◌≤◌, max, Bool, true, false, cond, List, length, drop, Some, None, Option, Result, Ok, Err, sym, ap, ◌∙◌, subst, arith}
+use Rattle.std.proofs.Common.{◌≡◌, ℕ, ◌≤◌, max, Bool, true, false, cond, List, length, Some, None, Option, ◌∙◌, subst, arith}
 use Rattle.std.specs.Option.{option_map}
-use Rattle.std.proofs.lemmas.List.{drop-drop}
-use Rattle.fault.specs.declared.Fault.{Fault}
 use Rattle.charge.specs.Groups.{Kind}
 use Rattle.automaton.specs.Meanings.{Local, Weights}
 use Rattle.player.specs.declared.call.Answer.{Answer}
 use Rattle.player.specs.declared.call.Answer.TheVariants.{Done, Reading as Read_as, Refused as Refused_by}
-use Rattle.player.specs.declared.meters.Reading.{Reading}
-use Rattle.player.specs.Answers.{answer_meant, done_or_refused, read_or_refused, Stays}
+use Rattle.player.specs.Answers.{answer_meant}
 use Rattle.player.specs.Calls.{PlayerCall, PlayerAnswer, PlayerStrips, size}
 use Rattle.player.specs.Calls.PlayerCall.{opens, touches, steps, reads, closes}
 use Rattle.player.specs.Calls.PlayerAnswer.{done, reading, refused}
 use Rattle.player.specs.Logs.{Log, allowed, accepted, standing, ring_opened, longest_opened}
 use Rattle.player.specs.Logs.Log.{◌then◌}
 use Rattle.player.specs.Obeying.{ChargesWritten, front_of_all, written_by, written_after, StaysPast}
-use Rattle.player.specs.Scripts.{Played, got, said_to, logged, still_open, cells_after, played_more, played}
+use Rattle.player.specs.Scripts.{PlayedScript, got, said_to, logged, still_open, cells_after, played_more, played}
+use Rattle.player.proofs.Books.{past-later}
 use Rattle.player.proofs.Scripts.{cells_stand}
-
--- what stays past an index stays past a later one
-past-later : {X : Type 0} (n m : ℕ) (old new : List X) → n ≤ m → drop n new ≡ drop n old → drop m new ≡ drop m old
-past-later n m old new less e =
-    ap (λ k. drop k new) split ∙ sym (drop-drop (m - n) n new) ∙ ap (drop (m - n)) e ∙ drop-drop (m - n) n old ∙ ap (λ k. drop k old) (sym split)
-  where
-    split : m ≡ n + (m - n)
-    split = omega arith
 
 -- one call more, which writes no charge past the first m
 pub stays-more : {C : Type 0} (n m : ℕ) (w : ChargesWritten) (old mid new : PlayerStrips C) → n ≤ m → (w.opening ≤ m) × (w.crossed ≤ m) × (w.touched ≤ m) →
@@ -97,7 +87,7 @@ module _ {C : Type 0} (K : Kind C) (r : Local) (d : Weights K.group.Carrier) whe
 
   -- What stays while a script is played: the charges past the longest ring that was opened, which is no shorter than the
   -- ring that is open.
-  pub record Stayed (p : Played K.group.Carrier) (old now : PlayerStrips C) : Type 0 where
+  pub record Stayed (p : PlayedScript K.group.Carrier) (old now : PlayerStrips C) : Type 0 where
     pub past : StaysPast (front_of_all (longest_opened p.log)) old now
     pub standing_within : length (standing p.log).cells ≤ longest_opened p.log
 
@@ -114,20 +104,3 @@ module _ {C : Type 0} (K : Kind C) (r : Local) (d : Weights K.group.Carrier) whe
         past = stays-more (longest_opened p.log) m (written_after answer call L) old mid new (longer p.log call p.strips L) (written-within p.log call p.strips L stayed.standing_within answer said) stayed.past more;
         standing_within = subst (λ n. n ≤ m) (cells_stand K r d s script call) (cells-within p.log call p.strips L stayed.standing_within);
       }
-
--- what an accepted or refused call leaves of one strip of charges
-module _ {C : Type 0} where
-  pub touch-stays : (told : Result (Unit {0}) Fault) (L i a : ℕ) (old new : PlayerStrips C) → new.opening ≡ old.opening → new.crossed ≡ old.crossed →
-      Stays told L old.touched new.touched → StaysPast (written_after {C = C} (Some (done_or_refused told)) (touches i a) L) old new
-  touch-stays (Ok t) L i a old new o c s = (o, c, s)
-  touch-stays (Err f) L i a old new o c s = (o, c, s)
-
-  pub step-stays : (told : Result (Unit {0}) Fault) (L : ℕ) (old new : PlayerStrips C) → new.opening ≡ old.opening → new.touched ≡ old.touched →
-      Stays told L old.crossed new.crossed → StaysPast (written_after {C = C} (Some (done_or_refused told)) steps L) old new
-  step-stays (Ok t) L old new o u s = (o, s, u)
-  step-stays (Err f) L old new o u s = (o, s, u)
-
-  pub read-stays : (told : Result (Reading C) Fault) (L i : ℕ) (old new : PlayerStrips C) → (new.opening ≡ old.opening) × (new.crossed ≡ old.crossed) × (new.touched ≡ old.touched) →
-      StaysPast (written_after (Some (read_or_refused told)) (reads i) L) old new
-  read-stays (Ok m) L i old new same = same
-  read-stays (Err f) L i old new same = same

@@ -10,7 +10,8 @@ use Rattle.automaton.proofs.Steps.{length-next}
 use Rattle.criterion.specs.ChargeStrips.{FrontMeans}
 use Rattle.player.specs.Calls.{crossing_at, booked, call_checked, Does}
 use Rattle.player.specs.Calls.PlayerCall.{steps}
-use Rattle.player.specs.Answers.{strips, done_said, Stays}
+use Rattle.player.specs.Answers.{done_said, Stays}
+use Rattle.player.specs.Promises.{meant, step_strips}
 use Rattle.player.proofs.Books.{front-means, front-past}
 use Rattle.player.proofs.Kept.{length-booked}
 use Rattle.player.proofs.Passed.{steps_fit}
@@ -30,21 +31,21 @@ module _ {C : Type 0} (K : Kind C) (r : Local) (d : Weights K.group.Carrier) (L 
   abbrev flows : List K.group.Carrier
   flows = booked K.group (crossing_at K r d (take L cells)) (take L (map K.means crossed))
 
-  module _ (ready : call_checked r.q L steps (strips K cells spare [] crossed []) ≡ Ok tt) (fronts : FrontMeans K flows crossed crossed')
+  module _ (ready : call_checked r.q L steps (meant K (step_strips cells spare crossed)) ≡ Ok tt) (fronts : FrontMeans K flows crossed crossed')
       (said : Result (Unit {0}) Fault) (passed : plainly said ≡ Ok tt) where
     fit : (L ≤ length cells) × (L ≤ length spare) × (L ≤ length (map K.means crossed))
-    fit = steps_fit r.q L (strips K cells spare [] crossed []) ready
+    fit = steps_fit r.q L (meant K (step_strips cells spare crossed)) ready
 
     size : length flows ≡ L
     size = length-booked K.group (crossing_at K r d (take L cells)) (take L (map K.means crossed)) ∙ length-take-le L (map K.means crossed) fit.2
 
     pub steps_does : cells' ≡ at_front (next r (take L cells)) cells → spare' ≡ at_front (take L cells) spare →
-        Does K r d L steps (strips K cells spare [] crossed []) (done_said K said) (strips K cells' spare' [] crossed' [])
+        Does K r d L steps (meant K (step_strips cells spare crossed)) (done_said K said) (meant K (step_strips cells' spare' crossed'))
     steps_does c s =
         let kept : length (take L cells) ≡ L = length-take-le L cells fit.0 in
         let new = front-count (next r (take L cells)) L cells cells' (length-next r (take L cells) ∙ kept) c in
         let old = front-count (take L cells) L spare spare' kept s in
-        does_work K r d L steps (strips K cells spare [] crossed []) (done_said K said) (strips K cells' spare' [] crossed' []) ready
+        does_work K r d L steps (meant K (step_strips cells spare crossed)) (done_said K said) (meant K (step_strips cells' spare' crossed')) ready
         (λ j. record {
           said = done_said K (passed_is said passed j);
           left = record {

@@ -9,7 +9,7 @@ use Rattle.criterion.specs.ChargeStrips.{FrontMeans}
 use Rattle.player.specs.Calls.{charges, booked, call_checked, Does}
 use Rattle.player.specs.Calls.PlayerCall.{touches}
 use Rattle.player.specs.Calls.PlayerAnswer.{done}
-use Rattle.player.specs.Answers.{strips}
+use Rattle.player.specs.Promises.{meant, touch_strips}
 use Rattle.player.proofs.Books.{front-means, front-past}
 use Rattle.player.proofs.Kept.{length-booked}
 use Rattle.player.proofs.Passed.{touches_fit}
@@ -41,17 +41,17 @@ module _ {C : Type 0} (K : Kind C) (r : Local) (d : Weights K.group.Carrier) (L 
   gains =
       booked K.group (λ j. minus K.group (charges K r d (set (take L cells) i a) j) (charges K r d (take L cells) j)) (take L (map K.means touched))
 
-  module _ (ready : call_checked r.q L (touches i a) (strips K cells [] [] [] touched) ≡ Ok tt) (fronts : FrontMeans K gains touched touched') where
+  module _ (ready : call_checked r.q L (touches i a) (meant K (touch_strips cells touched)) ≡ Ok tt) (fronts : FrontMeans K gains touched touched') where
     size : length gains ≡ L
     size =
         length-booked K.group (λ j. minus K.group (charges K r d (set (take L cells) i a) j) (charges K r d (take L cells) j)) (take L (map K.means touched))
-        ∙ length-take-le L (map K.means touched) ((touches_fit r.q L i a (strips K cells [] [] [] touched) ready).1)
+        ∙ length-take-le L (map K.means touched) ((touches_fit r.q L i a (meant K (touch_strips cells touched)) ready).1)
 
-    pub touches_does : cells' ≡ set cells i a → Does K r d L (touches i a) (strips K cells [] [] [] touched) done (strips K cells' [] [] [] touched')
+    pub touches_does : cells' ≡ set cells i a → Does K r d L (touches i a) (meant K (touch_strips cells touched)) done (meant K (touch_strips cells' touched'))
     touches_does c =
-        let fit = touches_fit r.q L i a (strips K cells [] [] [] touched) ready in
+        let fit = touches_fit r.q L i a (meant K (touch_strips cells touched)) ready in
         let new : set (take L cells) i a ++ drop L cells ≡ cells' = set-front L cells i a fit.2 ∙ sym c in
-        does_work K r d L (touches i a) (strips K cells [] [] [] touched) done (strips K cells' [] [] [] touched') ready
+        does_work K r d L (touches i a) (meant K (touch_strips cells touched)) done (meant K (touch_strips cells' touched')) ready
         (λ j. record {
           said = done;
           left = record {

@@ -109,3 +109,19 @@ module _ {C : Type 0} (K : Kind C) (r : Local) (d : Weights K.group.Carrier) (la
       (whole, logs_true K r d lawful weighed passed right.0 (played K r d handed script).log whole)
   log_true weighed passed (Ok (Some f)) script handed right = tt
   log_true weighed passed (Err f) script handed right = tt
+
+-- what was judged, where there is room for the answers
+module _ {C H B S : Type 0} {K : Kind C} (n room : ℕ) (b : Bench K) (lawful : Lawful b.rule) (old : Lent C) (result : Result (Verdict C H B) (Refused S)) (new : Lent C)
+    (judged : JudgedFor n room b old result new) where
+  told : Told b (with_answers n room (judge_found b (length old.crossings) (length old.ring))) (judge_said K result) old new
+  told = judged_for n room b old result new judged
+
+  pub verdict_told : VerdictTrue b (judge_said K result) new.ring
+  verdict_told = subst (λ j. VerdictTrue b j new.ring) (sym told.answer) (verdict_true K b.rule b.density lawful _ new.ring old.ring told.right told.left.ring)
+
+  pub crossings_told : CrossingsTrue b (judge_said K result) (map K.means new.crossings)
+  crossings_told =
+      subst (λ j. CrossingsTrue b j (map K.means new.crossings)) (sym told.answer) (crossings_true K b.rule b.density lawful _ old.crossings new.crossings told.right told.left.crossings)
+
+  pub log_told : Weighed b.density → bench_checked b ≡ Ok tt → (script : List PlayerCall) (handed : PlayerStrips K.group.Carrier) → LogTrue b (judge_said K result) script handed
+  log_told weighed passed script handed = subst (λ j. LogTrue b j script handed) (sym told.answer) (log_true K b.rule b.density lawful weighed passed _ script handed told.right)

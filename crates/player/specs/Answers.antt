@@ -12,7 +12,7 @@ use Rattle.player.specs.declared.call.Answer.{Answer}
 use Rattle.player.specs.declared.call.Answer.TheVariants.{Done, Reading as Read_as, Refused as Refused_by}
 use Rattle.player.specs.declared.player.Player.{Player}
 use Rattle.player.specs.declared.player.Player.TheVariants.{Idle, Playing}
-use Rattle.player.specs.Calls.{PlayerCall, PlayerAnswer, PlayerStrips}
+use Rattle.player.specs.Calls.{PlayerCall, PlayerAnswer}
 use Rattle.player.specs.Calls.PlayerCall.{opens, touches, steps, reads, closes}
 use Rattle.player.specs.Calls.PlayerAnswer.{done, reading, refused}
 
@@ -25,16 +25,6 @@ call_meant (Read site) = reads site
 call_meant Close = closes
 
 module _ {C : Type 0} (K : Kind C) where
-  -- strips by what their charges mean
-  abbrev pub strips : List ℕ → List ℕ → List C → List C → List C → PlayerStrips K.group.Carrier
-  strips cells spare opening crossed touched = record {
-    cells = cells;
-    spare = spare;
-    opening = map K.means opening;
-    crossed = map K.means crossed;
-    touched = map K.means touched;
-  }
-
   -- a reading by what its charges mean
   abbrev pub reading_means : Reading C → PlayerAnswer K.group.Carrier
   reading_means m = reading (K.means m.opening) (K.means m.crossed) (K.means m.touched) (K.means m.now)

@@ -4,7 +4,7 @@ pub mod Arcs
 pub mod Laws
 pub mod Answers
 pub mod Scripts
-pub mod Whole
 pub mod Near
 pub mod Promises
 pub mod Obeying
+pub mod Whole

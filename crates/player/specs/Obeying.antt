@@ -1,13 +1,15 @@
 -- What a player answers to a call and to a script, by the ring that is open. Assumes nothing.
 use Rattle.std.specs.Prelude.{◌≡◌, ℕ, List, length, drop, Some, None, Option}
+use Rattle.std.specs.Option.{option_map}
 use Rattle.charge.specs.Groups.{Kind}
 use Rattle.player.specs.declared.call.Answer.{Answer}
 use Rattle.player.specs.declared.call.Answer.TheVariants.{Done, Reading as Read_as, Refused as Refused_by}
 use Rattle.bench.specs.Benches.{Bench}
 use Rattle.player.specs.Calls.{PlayerCall, PlayerAnswer, PlayerStrips}
 use Rattle.player.specs.Calls.PlayerCall.{opens, touches, steps, reads, closes}
+use Rattle.player.specs.Answers.{answer_meant}
 use Rattle.player.specs.Promises.{OpenRing, meant}
-use Rattle.player.specs.Scripts.{Played, said_to, left_by, cells_after, played}
+use Rattle.player.specs.Scripts.{PlayedScript, said_to, left_by, cells_after, played}
 
 module _ {C : Type 0} {K : Kind C} (ring : OpenRing K) (call : PlayerCall) (s : PlayerStrips C) where
   -- the answer, the strips as they are left, and how many cells the ring has that is open then
@@ -52,6 +54,14 @@ StaysPast n old new =
     × (drop n.crossed new.crossed ≡ drop n.crossed old.crossed)
     × (drop n.touched new.touched ≡ drop n.touched old.touched)
 
+-- What a player answers to a call where a ring is open, how it leaves the strips, and how many cells the ring has that is
+-- open then.
+pub record ObeysOn {C : Type 0} {K : Kind C} (ring : OpenRing K) (call : PlayerCall) (old : PlayerStrips C) (answer : Option (Answer C)) (new : PlayerStrips C) (cells : ℕ) : Type 0 where
+  pub said : option_map (answer_meant K) answer ≡ said_on ring call old
+  pub left : meant K new ≡ left_on ring call old
+  pub still_open : cells ≡ cells_on ring call old
+  pub charges : StaysPast (written_after answer call ring.len) old new
+
 -- a script that is played on a bench
-abbrev pub played_on : {C : Type 0} {K : Kind C} → Bench K → PlayerStrips C → List PlayerCall → Played K.group.Carrier
+abbrev pub played_on : {C : Type 0} {K : Kind C} → Bench K → PlayerStrips C → List PlayerCall → PlayedScript K.group.Carrier
 played_on {C} {K} b s script = played K b.rule b.density (meant K s) script

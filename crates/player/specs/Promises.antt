@@ -19,8 +19,8 @@ use Rattle.bench.specs.States.{holding_bench, rule_of, density_of, holding_of, d
 use Rattle.player.specs.declared.ledger.Ledger.{Ledger}
 use Rattle.player.specs.declared.playing.Playing.{Playing}
 use Rattle.player.specs.declared.sites.Sites.{Sites}
-use Rattle.player.specs.declared.sites.Crossings.{Crossings}
-use Rattle.player.specs.Answers.{strips, of_player, open_cells}
+use Rattle.player.specs.declared.sites.CrossingCharges.{CrossingCharges}
+use Rattle.player.specs.Answers.{of_player, open_cells}
 use Rattle.player.specs.Calls.{PlayerCall, PlayerAnswer, PlayerRing, PlayerStrips, charges, crossing_at, booked, call_checked, Does}
 use Rattle.player.specs.Calls.PlayerCall.{closes}
 use Rattle.player.specs.Calls.PlayerAnswer.{done}
@@ -67,17 +67,14 @@ module _ {C R D : Type 0} {c : ChargeOf C} {r : RuleOf R} {d : DensityOf D C} wh
   abbrev pub charges_at : (K : Kind C) → Sites C R D c r d → ℕ → K.group.Carrier
   charges_at K s = charges K (r.meaning (rule_of s.bench.now)) (d.weights K (density_of s.bench.now)) s.ring.cells.now
 
-  abbrev pub crossings_at : (K : Kind C) → Crossings C R D c r d → ℕ → K.group.Carrier
+  abbrev pub crossings_at : (K : Kind C) → CrossingCharges C R D c r d → ℕ → K.group.Carrier
   crossings_at K s =
       let b = holding_of s.crossings in crossing_at K (r.meaning (rule_of b)) (d.weights K (density_of b)) s.ring.cells.now
 
 module _ {C : Type 0} {K : Kind C} (b : Bench K) where
-  -- the charge of each site of a ring and its opposite, what crosses into it in a step, and what it gains by a letter in a cell
+  -- the charge of each site of a ring, what crosses into it in a step, and what it gains by a letter in a cell
   abbrev pub site_charges : List ℕ → ℕ → K.group.Carrier
   site_charges = charges K b.rule b.density
-
-  abbrev pub site_opposites : List ℕ → ℕ → K.group.Carrier
-  site_opposites cells i = K.group.neg (site_charges cells i)
 
   abbrev pub site_crossings : List ℕ → ℕ → K.group.Carrier
   site_crossings = crossing_at K b.rule b.density
@@ -115,7 +112,13 @@ SameStrip l m = m.sites.ghost_name ≡ l.sites.ghost_name
 
 -- strips by what their charges mean
 abbrev pub meant : {C : Type 0} → (K : Kind C) → PlayerStrips C → PlayerStrips K.group.Carrier
-meant K s = strips K s.cells s.spare s.opening s.crossed s.touched
+meant K s = record {
+  cells = s.cells;
+  spare = s.spare;
+  opening = map K.means s.opening;
+  crossed = map K.means s.crossed;
+  touched = map K.means s.touched;
+}
 
 module _ {C : Type 0} {K : Kind C} (ring : OpenRing K) where
   -- the refusal of a call, if there is one, by the strips that it is handed

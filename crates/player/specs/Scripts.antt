@@ -8,7 +8,7 @@ use Rattle.player.specs.Logs.{Log, allowed, accepted, standing}
 use Rattle.player.specs.Logs.Log.{made, ◌then◌}
 
 -- what has been played: the log, the strips as they stand, and what was answered to each call
-pub record Played (A : Type 0) : Type 0 where
+pub record PlayedScript (A : Type 0) : Type 0 where
   pub log : Log A
   pub strips : PlayerStrips A
   pub said : List (Option (PlayerAnswer A))
@@ -42,7 +42,7 @@ module _ {C : Type 0} (K : Kind C) (r : Local) (d : Weights K.group.Carrier) whe
   cells_after L call s = cond (allowed call L) (accepted (got L call s).said (still_open call (size call L)) L) L
 
   -- one call more
-  abbrev pub played_more : Played K.group.Carrier → PlayerCall → Played K.group.Carrier
+  abbrev pub played_more : PlayedScript K.group.Carrier → PlayerCall → PlayedScript K.group.Carrier
   played_more p call =
       let L : ℕ = length (standing p.log).cells in
       record {
@@ -52,5 +52,5 @@ module _ {C : Type 0} (K : Kind C) (r : Local) (d : Weights K.group.Carrier) whe
       }
 
   -- a script played from the making of a bench on
-  abbrev pub played : PlayerStrips K.group.Carrier → List PlayerCall → Played K.group.Carrier
+  abbrev pub played : PlayerStrips K.group.Carrier → List PlayerCall → PlayedScript K.group.Carrier
   played s script = fold played_more (record { log = made; strips = s; said = [] }) script

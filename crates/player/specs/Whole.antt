@@ -1,5 +1,5 @@
 -- What performing a script on a drafted bench promises. Assumes nothing.
-use Rattle.std.specs.Prelude.{◌≡◌, ℕ, MatchBool, ◌+◌, ◌-◌, ◌*◌, List, ◌∷◌, [], length, take, Ok, Err, Option, Result, nat_le, slice_index_or}
+use Rattle.std.specs.Prelude.{◌≡◌, ℕ, MatchBool, ◌+◌, ◌-◌, ◌*◌, List, ◌∷◌, [], map, length, take, drop, Ok, Err, Option, Result, nat_le, slice_index_or}
 use Rattle.fault.specs.declared.Stop.TheVariants.{ShortStrip}
 use Rattle.fault.specs.Answers.{and_then}
 use Rattle.fault.specs.Checks.{tested}
@@ -19,9 +19,13 @@ use Rattle.bench.specs.Laws.{KeepsTotal, Apart}
 use Rattle.bench.specs.Verdicts.{Judgement, Lent}
 use Rattle.bench.specs.Verdicts.Judgement.{holds, breaks}
 use Rattle.player.specs.declared.player.Player.{Player}
-use Rattle.player.specs.Answers.{open_cells}
+use Rattle.player.specs.declared.call.Call.{Call}
+use Rattle.player.specs.declared.call.Answer.{Answer}
+use Rattle.player.specs.Answers.{call_meant, answers_to, open_cells}
 use Rattle.player.specs.Calls.{PlayerCall, PlayerAnswer, PlayerStrips}
-use Rattle.player.specs.Logs.{standing, OnEveryLine, WithoutGaps, LineTrue}
+use Rattle.player.specs.Logs.{standing, longest_opened, OnEveryLine, WithoutGaps, LineTrue}
+use Rattle.player.specs.Obeying.{played_on, front_of_all, StaysPast}
+use Rattle.player.specs.Promises.{meant}
 use Rattle.player.specs.Scripts.{played}
 
 -- a script of n calls needs room for n answers, and then what comes next
@@ -64,11 +68,6 @@ module _ {C : Type 0} {K : Kind C} (b : Bench K) where
   LogTrue (Ok (breaks f)) script handed = Unit {0}
   LogTrue (Err f) script handed = Unit {0}
 
-  -- both of these
-  abbrev pub ScriptTrue : Result (Judgement K.group.Carrier) Refusal → List PlayerCall → PlayerStrips K.group.Carrier → PlayerStrips K.group.Carrier →
-      List (Option (PlayerAnswer K.group.Carrier)) → ℕ → Type 0
-  ScriptTrue judged script handed left said cells = Plays judged script handed left said cells × LogTrue judged script handed
-
 -- how many cells the ring has that is open on a bench that holds
 abbrev pub cells_open : {C H P B E : Type 0} → (P → ℕ) → Result (Verdict C (Player H P) B) E → ℕ
 cells_open cells (Ok (Holds p)) = open_cells cells p
@@ -76,7 +75,18 @@ cells_open cells (Ok (Breaks b found)) = 0
 cells_open cells (Err e) = 0
 
 -- what is so unless a bench holds
-abbrev pub UnlessHolds : {C H B E : Type 0} → Result (Verdict C H B) E → Type 0 → Type 0
-UnlessHolds (Ok (Holds h)) P = Unit {0}
-UnlessHolds (Ok (Breaks b found)) P = P
-UnlessHolds (Err e) P = P
+abbrev pub UnlessHolds : {A : Type 0} → Result (Judgement A) Refusal → Type 0 → Type 0
+UnlessHolds (Ok holds) P = Unit {0}
+UnlessHolds (Ok (breaks f)) P = P
+UnlessHolds (Err f) P = P
+
+-- What performing a script leaves, by what was judged of the bench: the strips and the answers, each before and after, and
+-- how many cells the ring has that is open then.
+pub record Performs {C : Type 0} {K : Kind C} (b : Bench K) (judged : Result (Judgement K.group.Carrier) Refusal) (script : List Call) (old new : PlayerStrips C)
+    (before after : List (Option (Answer C))) (cells : ℕ) : Type 0 where
+  pub played : Plays b judged (map call_meant script) (meant K old) (meant K new) (answers_to K script after) cells
+  -- the answers past those to the script stay
+  pub past : drop (length script) after ≡ drop (length script) before
+  -- and so do the charges past the longest ring that the script opened
+  pub charges : StaysPast (front_of_all (longest_opened (played_on b old (map call_meant script)).log)) old new
+  pub unplayed : UnlessHolds judged ((new ≡ old) × (after ≡ before))

@@ -7,13 +7,18 @@ ghost use Rattle.player.specs.Logs.{AddsUp};
 use crate::meters::Reading;
 use charge::{Charge, difference};
 
-// The charges of an arc: at opening, what crossed into it and out of it, what was touched, and its charge now.
+/// What the meters of an arc of sites read.
 #[derive(Clone, Copy, PartialEq, Eq, Debug)]
 pub struct ArcReading<C> {
+    /// The charge of its sites when the ring was opened.
     pub opening: C,
+    /// What has crossed into its first site since.
     pub into: C,
+    /// What has crossed out of its last site, into the one after it.
     pub out: C,
+    /// What touches have added to its sites.
     pub touched: C,
+    /// The charge of its sites as the cells stand.
     pub now: C,
 }
 
@@ -32,8 +37,8 @@ fn site_after(count: usize, first: usize, offset: usize) -> usize
 }
 
 impl<C: Charge> ArcReading<C> {
-    // The arc of `len` sites from `first` on, by the readings of all sites of a ring; none where the ring has no such
-    // site, or fewer sites.
+    /// The arc of `len` sites from site `first` on, going round, by the readings of all sites of a ring, one a site and
+    /// in their order. `None` where the ring has no site `first` or fewer than `len` sites.
     pub fn over(readings: &[Reading<C>], first: usize, len: usize) -> Option<ArcReading<C>>
         ensures { option_map (arc_means C.kind) result ≡ arc_of C.kind readings.now first len }
     {
@@ -58,7 +63,8 @@ impl<C: Charge> ArcReading<C> {
         })
     }
 
-    // Whether the charge now is that at opening, with what crossed in, less what crossed out, and what was touched.
+    /// Whether the charge now is that at opening, plus what crossed in, less what crossed out, plus what was touched:
+    /// so does every arc of a ring whose strips are handed on from call to call.
     pub fn adds_up(self) -> bool
         ensures { IsTrue result ↔ AddsUp C.kind.group (arc_means C.kind self) }
     {

@@ -2,14 +2,13 @@
 ghost use Rattle.std.specs.Prelude.{◌≡◌, ◌+◌, ◌<◌, ◌≤◌, map, length, take, drop, slice_set, slice_index_or};
 ghost use Rattle.automaton.specs.Words.{table};
 ghost use Rattle.criterion.specs.ChargeStrips.{FrontMeans};
-ghost use Rattle.player.specs.Calls.{booked};
 ghost use Rattle.player.specs.Near.{back, up_to};
 ghost use Rattle.player.specs.Promises.{Books};
 
 use crate::sites::SiteCharges;
 use charge::Charge;
 
-// One charge a site, over a strip lent for writing.
+/// A site ledger: one charge a site, over a strip that is lent for writing. Its questions take it for writing too.
 #[derive(Drop)]
 pub struct Ledger<'a, C> {
     sites: &'a mut [C],
@@ -18,7 +17,7 @@ pub struct Ledger<'a, C> {
 impl<'a, C: Charge> Ledger<'a, C> {
     ghost use Rattle.player.specs.Promises.{ledger_charges, IsOver, SameStrip};
 
-    // The ledger of as many sites as the strip has charges.
+    /// The ledger of as many sites as the strip has charges. Nothing is written.
     pub fn new(sites: &'a mut [C]) -> Ledger<'a, C>
         ensures sites { ledger_charges result ≡ sites.old }
         ensures same { IsOver sites.entry result }
@@ -26,7 +25,7 @@ impl<'a, C: Charge> Ledger<'a, C> {
         Ledger { sites }
     }
 
-    // How many sites there are.
+    /// How many sites there are.
     pub fn len(&mut self) -> usize
         ensures answer { result ≡ length (ledger_charges self.old) }
         ensures kept { self.new ≡ self.old }
@@ -34,7 +33,7 @@ impl<'a, C: Charge> Ledger<'a, C> {
         self.sites.len()
     }
 
-    // The charge of site i, and zero past the last site.
+    /// The charge of site i, counted from 0, and zero past the last site.
     pub fn at(&mut self, i: usize) -> C
         ensures answer { let old = map C.kind.means (ledger_charges self.old) in
             C.kind.means result ≡ slice_index_or old i C.kind.group.zero }
@@ -47,7 +46,7 @@ impl<'a, C: Charge> Ledger<'a, C> {
         }
     }
 
-    // Writes the charge of site i. Past the last site nothing is written.
+    /// Writes the charge of site i. Past the last site nothing is written.
     pub fn put(&mut self, i: usize, charge: C)
         ensures sites { ledger_charges self.new ≡ slice_set (ledger_charges self.old) i charge }
         ensures same { SameStrip self.old self.new }
@@ -68,7 +67,7 @@ impl<'a, C: Charge> Ledger<'a, C> {
         self.at(i).plus(charge)
     }
 
-    // Adds to the charge of site i. Past the last site nothing is written.
+    /// Adds to the charge of site i. Past the last site nothing is written.
     pub fn add(&mut self, i: usize, charge: C)
         ensures sites { let old = map C.kind.means (ledger_charges self.old) in
             let own = slice_index_or old i C.kind.group.zero in
@@ -82,45 +81,6 @@ impl<'a, C: Charge> Ledger<'a, C> {
         let sum = self.sum_at(i, charge);
         self.put(i, sum);
     }
-
-    // Writes each site's charge.
-    pub(crate) fn fill<S: SiteCharges<C>>(&mut self, charges: &S)
-        ensures sites { map C.kind.means (ledger_charges self.new)
-            ≡ table (length (ledger_charges self.old)) (S.charges C.kind charges.now) }
-        ensures same { SameStrip self.old self.new }
-    {
-        for i in 0..self.sites.len() {
-            self.put(i, charges.charge_at(i));
-        }
-    }
-
-    // Adds to each site's charge.
-    pub(crate) fn book<S: SiteCharges<C>>(&mut self, charges: &S)
-        ensures sites { let old = map C.kind.means (ledger_charges self.old) in
-            map C.kind.means (ledger_charges self.new)
-            ≡ booked C.kind.group (S.charges C.kind charges.now) old }
-        ensures same { SameStrip self.old self.new }
-    {
-        for i in 0..self.sites.len() {
-            self.add(i, charges.charge_at(i));
-        }
-    }
-
-    // Adds to the charges of the `count` sites up to site i, going round.
-    fn book_back<S: SiteCharges<C>>(&mut self, i: usize, count: usize, charges: &S)
-        requires { let len = length (ledger_charges self.old) in (i < len) × (count ≤ len) }
-        ensures sites { let old = map C.kind.means (ledger_charges self.old) in
-            let len = length (ledger_charges self.old) in
-            let near = up_to C.kind.group len i count (S.charges C.kind charges.now) in
-            map C.kind.means (ledger_charges self.new) ≡ booked C.kind.group near old }
-        ensures same { SameStrip self.old self.new }
-    {
-        let len = self.sites.len();
-        for t in 0..count {
-            let site = site_before(len, i, t);
-            self.add(site, charges.charge_at(site));
-        }
-    }
 }
 
 // The site that stands t sites before site i of a ring.
@@ -130,36 +90,6 @@ fn site_before(len: usize, i: usize, t: usize) -> usize
     ensures back { back len i result ≡ t }
 {
     if t <= i { i - t } else { len - (t - i) }
-}
-
-// Writes each site's charge.
-fn fill_strip<C: Charge, S: SiteCharges<C>>(strip: &mut [C], charges: &S)
-    ensures { map C.kind.means strip.new ≡ table (length strip.old) (S.charges C.kind charges.now) }
-{
-    Ledger::new(strip).fill(charges);
-}
-
-// Adds to each site's charge.
-fn book_strip<C: Charge, S: SiteCharges<C>>(strip: &mut [C], charges: &S)
-    ensures { map C.kind.means strip.new
-        ≡ booked C.kind.group (S.charges C.kind charges.now) (map C.kind.means strip.old) }
-{
-    Ledger::new(strip).book(charges);
-}
-
-// Adds to the charges of the `count` sites up to site i, going round.
-fn book_strip_back<C: Charge, S: SiteCharges<C>>(
-    strip: &mut [C],
-    i: usize,
-    count: usize,
-    charges: &S,
-)
-    requires { (i < length strip.old) × (count ≤ length strip.old) }
-    ensures { let len = length strip.old in
-        let near = up_to C.kind.group len i count (S.charges C.kind charges.now) in
-        map C.kind.means strip.new ≡ booked C.kind.group near (map C.kind.means strip.old) }
-{
-    Ledger::new(strip).book_back(i, count, charges);
 }
 
 // The charge of site i, and zero past the last site.
@@ -172,23 +102,18 @@ pub(crate) fn read_strip<C: Charge>(strip: &mut [C], i: usize) -> C
 }
 
 // Writes the charges of the first `len` sites.
-pub(crate) fn fill_front<C: Charge, S: SiteCharges<C>>(len: usize, strip: &mut [C], charges: &S)
+pub(crate) fn fill<C: Charge, S: SiteCharges<C>>(len: usize, strip: &mut [C], charges: &S)
     requires { len ≤ length strip.old }
     ensures { FrontMeans C.kind (table len (S.charges C.kind charges.now)) strip.old strip.new }
 {
-    fill_strip(&mut strip[..len], charges);
+    let mut ledger = Ledger::new(strip);
+    for i in 0..len {
+        ledger.put(i, charges.charge_at(i));
+    }
 }
 
-// Adds to the charges of the first `len` sites.
-pub(crate) fn book_front<C: Charge, S: SiteCharges<C>>(len: usize, strip: &mut [C], charges: &S)
-    requires { len ≤ length strip.old }
-    ensures { Books C.kind len (S.charges C.kind charges.now) strip.old strip.new }
-{
-    book_strip(&mut strip[..len], charges);
-}
-
-// Adds to the charges of the `count` sites up to site i of the ring of the first `len` sites.
-pub(crate) fn book_front_back<C: Charge, S: SiteCharges<C>>(
+// Adds to the charges of the `count` sites up to site i, going round, of a ring of the first `len` sites.
+pub(crate) fn book_up_to<C: Charge, S: SiteCharges<C>>(
     len: usize,
     strip: &mut [C],
     i: usize,
@@ -199,5 +124,20 @@ pub(crate) fn book_front_back<C: Charge, S: SiteCharges<C>>(
     ensures { let near = up_to C.kind.group len i count (S.charges C.kind charges.now) in
         Books C.kind len near strip.old strip.new }
 {
-    book_strip_back(&mut strip[..len], i, count, charges);
+    let mut ledger = Ledger::new(strip);
+    for t in 0..count {
+        let site = site_before(len, i, t);
+        ledger.add(site, charges.charge_at(site));
+    }
+}
+
+// Adds to the charges of the first `len` sites.
+pub(crate) fn book<C: Charge, S: SiteCharges<C>>(len: usize, strip: &mut [C], charges: &S)
+    requires { len ≤ length strip.old }
+    ensures { Books C.kind len (S.charges C.kind charges.now) strip.old strip.new }
+{
+    let mut ledger = Ledger::new(strip);
+    for i in 0..len {
+        ledger.add(i, charges.charge_at(i));
+    }
 }

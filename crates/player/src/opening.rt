@@ -10,9 +10,9 @@ ghost use Rattle.player.specs.Answers.{open_said, Stays};
 ghost use Rattle.player.specs.Logs.{LogsTrueOn};
 ghost use Rattle.player.specs.Promises.{ring_on, ring_len, holding_under, sites_ring, site_charges, meter_strips, tested_by, DoesOn};
 
-use crate::ledger::{book_front, fill_front};
+use crate::ledger::fill;
 use crate::playing::Playing;
-use crate::sites::{Charges, NoCharges, Sites};
+use crate::sites::{Sites, ZeroCharges};
 use automaton::{Density, Ring, Rule};
 use bench::{Holding, Refused};
 use charge::Charge;
@@ -64,14 +64,18 @@ fn open_on<C: Charge, R: Rule, D: Density<C>>(
 {
     let ring = sites.ring.cells;
     cells[..ring.len()].copy_from_slice(ring);
-    fill_front(ring.len(), opening, &Charges { sites });
-    fill_front(ring.len(), crossed, &NoCharges);
-    fill_front(ring.len(), touched, &NoCharges);
+    fill(ring.len(), opening, sites);
+    fill(ring.len(), crossed, &ZeroCharges);
+    fill(ring.len(), touched, &ZeroCharges);
 }
 
 impl<C: Charge, R: Rule, D: Density<C>> Playing<C, R, D> {
-    // Copies a ring to the cells, writes each site's charge to opening, and sets crossed and touched to zero. The bench
-    // holds, so each line of every log of it without gaps is true.
+    /// Opens a ring of L letters, one a cell: copies it to the cells, writes each site's charge to opening, and sets
+    /// crossed and touched to zero at each site. The bench holds, so each line of every log of it without gaps is true.
+    ///
+    /// The bench comes back, refused by the first that fits: `Stop::BadLength` where L is 0 or above
+    /// `fault::MOST_CELLS`, `Stop::ShortStrip` where a strip has fewer than L entries, both at place 0, and
+    /// `Stop::BadLetter` at the first letter that is not below the alphabet size.
     pub fn open(
         bench: Holding<C, R, D>,
         ring: &[u8],

@@ -1,14 +1,13 @@
 // Judging a drafted bench, and playing a script of calls on it where it holds.
-ghost use Rattle.std.specs.Prelude.{◌≡◌, map, length, drop};
+ghost use Rattle.std.specs.Prelude.{map, length};
 ghost use Rattle.bench.specs.Answers.{judge_said};
 ghost use Rattle.bench.specs.States.{draft_bench};
 ghost use Rattle.bench.specs.Verdicts.{lent};
 ghost use Rattle.player.specs.Laws.{RefusalsFit, StepsOn};
-ghost use Rattle.player.specs.Logs.{longest_opened, LogsTrue};
-ghost use Rattle.player.specs.Obeying.{played_on, front_of_all, StaysPast};
-ghost use Rattle.player.specs.Answers.{call_meant, answers_to};
+ghost use Rattle.player.specs.Logs.{LogsTrue};
+ghost use Rattle.player.specs.Answers.{call_meant};
 ghost use Rattle.player.specs.Promises.{all_strips, meant, ring_len, HandsOnPlayer};
-ghost use Rattle.player.specs.Whole.{JudgedFor, VerdictTrue, CrossingsTrue, Plays, ScriptTrue, cells_open, UnlessHolds};
+ghost use Rattle.player.specs.Whole.{JudgedFor, Performs, VerdictTrue, CrossingsTrue, LogTrue, cells_open};
 
 use crate::call::{Answer, Call};
 use crate::player::{PlayerOf, play};
@@ -17,7 +16,8 @@ use bench::{Breaking, Draft, Refused, Verdict};
 use charge::Charge;
 use fault::Stop;
 
-// A bench that was judged, and where it holds was played on.
+/// A bench that was judged, and where it holds was played on: with no ring open, or with the one that the script left
+/// open.
 pub type Performed<C, R, D> = Verdict<C, PlayerOf<C, R, D>, Breaking<C, R, D>>;
 
 // Judges a bench, and plays a script where it holds. Apart from `perform`, whose theorems need answers of their own.
@@ -36,22 +36,10 @@ fn perform_on<C: Charge, R: Rule, D: Density<C>>(
     ensures judged { JudgedFor (length script.now) (length answers.old) (draft_bench draft)
         (lent crossings.old ring.old) result (lent crossings.new ring.new) }
     ensures handed { HandsOnPlayer draft result }
-    ensures past { drop (length script.now) answers.new ≡ drop (length script.now) answers.old }
-    ensures unplayed { UnlessHolds result (
-        (all_strips cells.new spare.new opening.new crossed.new touched.new
-        ≡ all_strips cells.old spare.old opening.old crossed.old touched.old)
-        × (answers.new ≡ answers.old)
-        ) }
-    ensures charges { let p = played_on (draft_bench draft)
+    ensures performs { Performs (draft_bench draft) (judge_said C.kind result) script.now
         (all_strips cells.old spare.old opening.old crossed.old touched.old)
-        (map call_meant script.now) in
-        StaysPast (front_of_all (longest_opened p.log))
-        (all_strips cells.old spare.old opening.old crossed.old touched.old)
-        (all_strips cells.new spare.new opening.new crossed.new touched.new) }
-    ensures script { Plays (draft_bench draft) (judge_said C.kind result) (map call_meant script.now)
-        (meant C.kind (all_strips cells.old spare.old opening.old crossed.old touched.old))
-        (meant C.kind (all_strips cells.new spare.new opening.new crossed.new touched.new))
-        (answers_to C.kind script.now answers.new) (cells_open ring_len result) }
+        (all_strips cells.new spare.new opening.new crossed.new touched.new)
+        answers.old answers.new (cells_open ring_len result) }
 {
     if answers.len() < script.len() {
         return Err(Refused {
@@ -68,10 +56,15 @@ fn perform_on<C: Charge, R: Rule, D: Density<C>>(
     }
 }
 
-// Judges a bench, and where it holds answers each call of a script, in the order of the script; a call that the states do
-// not allow has no answer. The strips are as the judge and the player lend them, and one more is for the answers. Only a
-// strip of the judge or of the answers that is too short is refused; the player's are refused call by call. The charges
-// past the longest ring that the script opened stay as they were, and so do all where it opened none.
+/// Judges a bench, and where it holds answers each call of a script, in the order of the script, as `obey` does: answer
+/// i is that to call i, and `None` where the state did not allow the call.
+///
+/// `crossings` and `ring` are the strips of `Draft::judge`; the five strips after them are the player's, of any
+/// lengths, which are refused call by call; `answers` has an entry a call. Where it has fewer the draft comes back,
+/// refused by `Stop::ShortStrip` at place 0, and so it does where a strip of the judge is too short.
+///
+/// Past the script's answers, and past the longest ring that it opened, what answers and charges there were stay.
+/// Unless the bench holds, the player's strips and the answers stay as they were.
 pub fn perform<C: Charge, R: Rule, D: Density<C>>(
     draft: Draft<C, R, D>,
     script: &[Call<'_>],
@@ -87,27 +80,16 @@ pub fn perform<C: Charge, R: Rule, D: Density<C>>(
     ensures judged { JudgedFor (length script.now) (length answers.old) (draft_bench draft)
         (lent crossings.old ring.old) result (lent crossings.new ring.new) }
     ensures handed { HandsOnPlayer draft result }
-    ensures past { drop (length script.now) answers.new ≡ drop (length script.now) answers.old }
-    ensures unplayed { UnlessHolds result (
-        (all_strips cells.new spare.new opening.new crossed.new touched.new
-        ≡ all_strips cells.old spare.old opening.old crossed.old touched.old)
-        × (answers.new ≡ answers.old)
-        ) }
-    ensures charges { let p = played_on (draft_bench draft)
+    ensures performs { Performs (draft_bench draft) (judge_said C.kind result) script.now
         (all_strips cells.old spare.old opening.old crossed.old touched.old)
-        (map call_meant script.now) in
-        StaysPast (front_of_all (longest_opened p.log))
-        (all_strips cells.old spare.old opening.old crossed.old touched.old)
-        (all_strips cells.new spare.new opening.new crossed.new touched.new) }
+        (all_strips cells.new spare.new opening.new crossed.new touched.new)
+        answers.old answers.new (cells_open ring_len result) }
     ensures verdict { VerdictTrue (draft_bench draft) (judge_said C.kind result) ring.new }
     ensures crossings { CrossingsTrue (draft_bench draft) (judge_said C.kind result)
         (map C.kind.means crossings.new) }
     ensures logs { LogsTrue C.kind }
-    ensures script { ScriptTrue (draft_bench draft) (judge_said C.kind result)
-        (map call_meant script.now)
-        (meant C.kind (all_strips cells.old spare.old opening.old crossed.old touched.old))
-        (meant C.kind (all_strips cells.new spare.new opening.new crossed.new touched.new))
-        (answers_to C.kind script.now answers.new) (cells_open ring_len result) }
+    ensures log { LogTrue (draft_bench draft) (judge_said C.kind result) (map call_meant script.now)
+        (meant C.kind (all_strips cells.old spare.old opening.old crossed.old touched.old)) }
     ensures laws { RefusalsFit C.kind × StepsOn C.kind }
 {
     perform_on(

@@ -1,11 +1,12 @@
 // A bench that holds, as calls move it from state to state.
-ghost use Rattle.std.specs.Prelude.{◌≡◌, ◌≤◌, map, length, drop};
-ghost use Rattle.std.specs.Option.{option_map};
+ghost use Rattle.std.specs.Prelude.{◌≡◌, ◌≤◌, length, Ok};
 ghost use Rattle.bench.specs.States.{holding_bench};
-ghost use Rattle.player.specs.Answers.{call_meant, answer_meant, answers_to, done_said, read_said, done_or_refused, read_or_refused, open_cells};
-ghost use Rattle.player.specs.Logs.{standing, longest_opened, LogsTrueOn};
-ghost use Rattle.player.specs.Promises.{all_strips, meant, ring_on, ring_len, open_ring, player_ring, player_holding, holding_under};
-ghost use Rattle.player.specs.Obeying.{said_on, left_on, cells_on, played_on, written_after, front_of_all, StaysPast};
+ghost use Rattle.bench.specs.Verdicts.Judgement.{holds};
+ghost use Rattle.player.specs.Answers.{call_meant, answer_meant, done_said, read_said, done_or_refused, read_or_refused, open_cells};
+ghost use Rattle.player.specs.Logs.{LogsTrueOn};
+ghost use Rattle.player.specs.Promises.{all_strips, ring_on, ring_len, open_ring, player_ring, player_holding, holding_under};
+ghost use Rattle.player.specs.Obeying.{ObeysOn};
+ghost use Rattle.player.specs.Whole.{Performs};
 
 use crate::call::{Answer, Call};
 use crate::meters::Reading;
@@ -15,14 +16,16 @@ use bench::Holding;
 use charge::Charge;
 use fault::Fault;
 
-// A bench that holds: H where no ring is open on it, and P where one is.
+/// A bench that holds, in one of two states.
 #[derive(Drop)]
 pub enum Player<H, P> {
+    /// No ring is open on it.
     Idle(H),
+    /// A ring is open on it.
     Playing(P),
 }
 
-// A holding bench in either state.
+/// A holding bench in either state: what `obey` takes and gives back, and what `perform` leaves.
 pub type PlayerOf<C, R, D> = Player<Holding<C, R, D>, Playing<C, R, D>>;
 
 fn done_or_refused<C: Charge>(done: Result<(), Fault>) -> Answer<C>
@@ -55,18 +58,10 @@ fn obey_idle<C: Charge, R: Rule, D: Density<C>>(
     crossed: &mut [C],
     touched: &mut [C],
 ) -> (PlayerOf<C, R, D>, Option<Answer<C>>)
-    ensures said { option_map (answer_meant C.kind) result.1
-        ≡ said_on (ring_on bench 0) (call_meant call.entry)
-        (all_strips cells.old spare.now opening.old crossed.old touched.old) }
-    ensures left { meant C.kind (all_strips cells.new spare.now opening.new crossed.new touched.new)
-        ≡ left_on (ring_on bench 0) (call_meant call.entry)
-        (all_strips cells.old spare.now opening.old crossed.old touched.old) }
-    ensures cells { open_cells ring_len result.0
-        ≡ cells_on (ring_on bench 0) (call_meant call.entry)
-        (all_strips cells.old spare.now opening.old crossed.old touched.old) }
-    ensures charges { StaysPast (written_after result.1 (call_meant call.entry) 0)
-        (all_strips cells.old spare.now opening.old crossed.old touched.old)
-        (all_strips cells.new spare.now opening.new crossed.new touched.new) }
+    ensures obeys { ObeysOn (ring_on bench 0) (call_meant call.entry)
+        (all_strips cells.old spare.now opening.old crossed.old touched.old) result.1
+        (all_strips cells.new spare.now opening.new crossed.new touched.new)
+        (open_cells ring_len result.0) }
     ensures bench { player_holding result.0 ≡ bench }
 {
     let Call::Open(ring) = call else {
@@ -91,18 +86,10 @@ fn obey_playing<C: Charge, R: Rule, D: Density<C>>(
     crossed: &mut [C],
     touched: &mut [C],
 ) -> (PlayerOf<C, R, D>, Option<Answer<C>>)
-    ensures said { option_map (answer_meant C.kind) result.1
-        ≡ said_on (open_ring playing) (call_meant call.entry)
-        (all_strips cells.old spare.old opening.old crossed.old touched.old) }
-    ensures left { meant C.kind (all_strips cells.new spare.new opening.new crossed.new touched.new)
-        ≡ left_on (open_ring playing) (call_meant call.entry)
-        (all_strips cells.old spare.old opening.old crossed.old touched.old) }
-    ensures cells { open_cells ring_len result.0
-        ≡ cells_on (open_ring playing) (call_meant call.entry)
-        (all_strips cells.old spare.old opening.old crossed.old touched.old) }
-    ensures charges { StaysPast (written_after result.1 (call_meant call.entry) (open_ring playing).len)
-        (all_strips cells.old spare.old opening.old crossed.old touched.old)
-        (all_strips cells.new spare.new opening.new crossed.new touched.new) }
+    ensures obeys { ObeysOn (open_ring playing) (call_meant call.entry)
+        (all_strips cells.old spare.old opening.old crossed.old touched.old) result.1
+        (all_strips cells.new spare.new opening.new crossed.new touched.new)
+        (open_cells ring_len result.0) }
     ensures bench { player_holding result.0 ≡ holding_under playing }
 {
     match call {
@@ -123,8 +110,12 @@ fn obey_playing<C: Charge, R: Rule, D: Density<C>>(
     }
 }
 
-// Answers a call. One that the state does not allow has no answer. The bench holds, so each line of every log of it without
-// gaps is true.
+/// Answers one call. Where no ring is open, only an open is allowed, and where one is, all but an open: a call that the
+/// state does not allow has no answer and does nothing. What is refused, at which place, and what is written is as each
+/// call of `Playing` has it; of the five strips a call looks only at those that it takes there.
+///
+/// An open that is refused leaves no ring open, and every other refusal leaves the ring open. The bench holds, so each
+/// line of every log of it without gaps is true.
 #[tactic(auto, using(crate::proofs::HoldingLogs::holding_logs))]
 pub fn obey<C: Charge, R: Rule, D: Density<C>>(
     player: PlayerOf<C, R, D>,
@@ -135,18 +126,10 @@ pub fn obey<C: Charge, R: Rule, D: Density<C>>(
     crossed: &mut [C],
     touched: &mut [C],
 ) -> (PlayerOf<C, R, D>, Option<Answer<C>>)
-    ensures said { option_map (answer_meant C.kind) result.1
-        ≡ said_on (player_ring player) (call_meant call.entry)
-        (all_strips cells.old spare.old opening.old crossed.old touched.old) }
-    ensures left { meant C.kind (all_strips cells.new spare.new opening.new crossed.new touched.new)
-        ≡ left_on (player_ring player) (call_meant call.entry)
-        (all_strips cells.old spare.old opening.old crossed.old touched.old) }
-    ensures cells { open_cells ring_len result.0
-        ≡ cells_on (player_ring player) (call_meant call.entry)
-        (all_strips cells.old spare.old opening.old crossed.old touched.old) }
-    ensures charges { StaysPast (written_after result.1 (call_meant call.entry) (player_ring player).len)
-        (all_strips cells.old spare.old opening.old crossed.old touched.old)
-        (all_strips cells.new spare.new opening.new crossed.new touched.new) }
+    ensures obeys { ObeysOn (player_ring player) (call_meant call.entry)
+        (all_strips cells.old spare.old opening.old crossed.old touched.old) result.1
+        (all_strips cells.new spare.new opening.new crossed.new touched.new)
+        (open_cells ring_len result.0) }
     ensures bench { player_holding result.0 ≡ player_holding player }
     ensures logs { LogsTrueOn (player_ring player).bench }
 {
@@ -171,26 +154,10 @@ pub(crate) fn play<C: Charge, R: Rule, D: Density<C>>(
 ) -> PlayerOf<C, R, D>
     requires { length script.now ≤ length answers.old }
     ensures bench { player_holding result ≡ bench }
-    ensures strips { let p = played_on (holding_bench bench)
+    ensures performs { Performs (holding_bench bench) (Ok holds) script.now
         (all_strips cells.old spare.old opening.old crossed.old touched.old)
-        (map call_meant script.now) in
-        meant C.kind (all_strips cells.new spare.new opening.new crossed.new touched.new)
-        ≡ p.strips }
-    ensures answers { let p = played_on (holding_bench bench)
-        (all_strips cells.old spare.old opening.old crossed.old touched.old)
-        (map call_meant script.now) in
-        answers_to C.kind script.now answers.new ≡ p.said }
-    ensures past { drop (length script.now) answers.new ≡ drop (length script.now) answers.old }
-    ensures charges { let p = played_on (holding_bench bench)
-        (all_strips cells.old spare.old opening.old crossed.old touched.old)
-        (map call_meant script.now) in
-        StaysPast (front_of_all (longest_opened p.log))
-        (all_strips cells.old spare.old opening.old crossed.old touched.old)
-        (all_strips cells.new spare.new opening.new crossed.new touched.new) }
-    ensures cells { let p = played_on (holding_bench bench)
-        (all_strips cells.old spare.old opening.old crossed.old touched.old)
-        (map call_meant script.now) in
-        open_cells ring_len result ≡ length (standing p.log).cells }
+        (all_strips cells.new spare.new opening.new crossed.new touched.new)
+        answers.old answers.new (open_cells ring_len result) }
 {
     let mut player = Player::Idle(bench);
     for (i, call) in script.iter().enumerate() {

@@ -8,6 +8,7 @@ ghost use Rattle.player.specs.Promises.{open_ring, meter_strips, tested_by, Does
 use crate::ledger::read_strip;
 use crate::meters::Reading;
 use crate::playing::Playing;
+use crate::sites::SiteCharges;
 use automaton::{Density, Rule};
 use charge::Charge;
 use fault::{Fault, Stop};
@@ -59,12 +60,15 @@ impl<C: Charge, R: Rule, D: Density<C>> Playing<C, R, D> {
             opening: read_strip(opening, site),
             crossed: read_strip(crossed, site),
             touched: read_strip(touched, site),
-            now: self.sites(cells).charge(site),
+            now: self.sites(cells).charge_at(site),
         }
     }
 
-    // A site's opening, crossed and touched charges, and its charge now. Nothing is written: the strips of charges are
-    // taken for writing, as ledgers take them.
+    /// Reads the meters of a site of the ring of L cells. Nothing is written.
+    ///
+    /// Refused by the first that fits: `Stop::ShortStrip` where a strip has fewer than L entries and
+    /// `Stop::BadPosition` where the site is not below L, both at place 0, and `Stop::BadLetter` at the first cell that
+    /// holds no letter.
     pub fn read(
         &self,
         site: usize,

@@ -17,9 +17,9 @@ pub(crate) trait SiteCharges<C: Charge> {
 
 // Zero at every site.
 #[derive(Drop)]
-pub(crate) struct NoCharges;
+pub(crate) struct ZeroCharges;
 
-impl<C: Charge> SiteCharges<C> for NoCharges {
+impl<C: Charge> SiteCharges<C> for ZeroCharges {
     ghost charges = { λ K _ _. K.group.zero };
 
     fn charge_at(&self, _i: usize) -> C {
@@ -27,7 +27,7 @@ impl<C: Charge> SiteCharges<C> for NoCharges {
     }
 }
 
-// A ring that is played on a bench that holds.
+// A ring that is played on a bench that holds: each site has its own charge.
 #[derive(Drop)]
 pub(crate) struct Sites<'b, 'r, C: Charge, R: Rule, D: Density<C>> {
     pub bench: &'b Holding<C, R, D>,
@@ -35,58 +35,39 @@ pub(crate) struct Sites<'b, 'r, C: Charge, R: Rule, D: Density<C>> {
     pub ghost alphabet: { ring.q ≡ (holding_bench bench.now).rule.q },
 }
 
-impl<C: Charge, R: Rule, D: Density<C>> Sites<'_, '_, C, R, D> {
+impl<C: Charge, R: Rule, D: Density<C>> SiteCharges<C> for Sites<'_, '_, C, R, D> {
     ghost use Rattle.player.specs.Promises.{charges_at};
 
-    // The charge of site i.
-    pub(crate) fn charge(&self, i: usize) -> C
-        ensures { C.kind.means result ≡ charges_at C.kind self.now i }
-    {
-        self.ring.site_charge(self.bench.density(), i)
-    }
-}
-
-// The charge of each site.
-#[derive(Drop)]
-pub(crate) struct Charges<'a, S> {
-    pub sites: &'a S,
-}
-
-impl<C: Charge, R: Rule, D: Density<C>> SiteCharges<C> for Charges<'_, Sites<'_, '_, C, R, D>> {
-    ghost use Rattle.player.specs.Promises.{charges_at};
-
-    ghost charges = { λ K s. charges_at K s.sites.now };
+    ghost charges = { λ K s. charges_at K s };
 
     fn charge_at(&self, i: usize) -> C {
-        self.sites.charge(i)
+        self.ring.site_charge(self.bench.density(), i)
     }
 }
 
 // The opposite of each site's charge.
 #[derive(Drop)]
-pub(crate) struct Opposites<'a, S> {
-    pub sites: &'a S,
+pub(crate) struct OppositeCharges<'a, S> {
+    pub charges: &'a S,
 }
 
-impl<C: Charge, R: Rule, D: Density<C>> SiteCharges<C> for Opposites<'_, Sites<'_, '_, C, R, D>> {
-    ghost use Rattle.player.specs.Promises.{charges_at};
-
-    ghost charges = { λ K s i. K.group.neg (charges_at K s.sites.now i) };
+impl<C: Charge, S: SiteCharges<C>> SiteCharges<C> for OppositeCharges<'_, S> {
+    ghost charges = { λ K s i. K.group.neg (S.charges K s.charges.now i) };
 
     fn charge_at(&self, i: usize) -> C {
-        self.sites.charge(i).opposite()
+        self.charges.charge_at(i).opposite()
     }
 }
 
 // What crosses into each site of a ring in a step.
 #[derive(Drop)]
-pub(crate) struct Crossings<'b, 'r, C: Charge, R: Rule, D: Density<C>> {
+pub(crate) struct CrossingCharges<'b, 'r, C: Charge, R: Rule, D: Density<C>> {
     pub crossings: SiteCrossings<'b, C, R, D>,
     pub ring: Ring<'r>,
     pub ghost alphabet: { ring.q ≡ (sites_bench crossings).rule.q },
 }
 
-impl<C: Charge, R: Rule, D: Density<C>> SiteCharges<C> for Crossings<'_, '_, C, R, D> {
+impl<C: Charge, R: Rule, D: Density<C>> SiteCharges<C> for CrossingCharges<'_, '_, C, R, D> {
     ghost use Rattle.player.specs.Promises.{crossings_at};
 
     ghost charges = { λ K s. crossings_at K s };

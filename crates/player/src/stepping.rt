@@ -7,9 +7,9 @@ ghost use Rattle.player.specs.Calls.PlayerCall.{steps};
 ghost use Rattle.player.specs.Answers.{done_said, Stays};
 ghost use Rattle.player.specs.Promises.{open_ring, ring_len, step_strips, tested_by, site_crossings, Books, DoesOn};
 
-use crate::ledger::book_front;
+use crate::ledger::book;
 use crate::playing::Playing;
-use crate::sites::Crossings;
+use crate::sites::CrossingCharges;
 use automaton::{Density, Rule, next_ring};
 use bench::NextWords;
 use charge::Charge;
@@ -56,10 +56,10 @@ impl<C: Charge, R: Rule, D: Density<C>> Playing<C, R, D> {
             Books C.kind ring.len flows crossed.old crossed.new }
     {
         let mut room = NextWords::new();
-        book_front(
+        book(
             self.len,
             crossed,
-            &Crossings {
+            &CrossingCharges {
                 crossings: self.bench.crossings(self.len, &mut room),
                 ring: self.sites(cells).ring,
             },
@@ -67,8 +67,17 @@ impl<C: Charge, R: Rule, D: Density<C>> Playing<C, R, D> {
         self.advance(cells, spare)
     }
 
-    // Adds to crossed, at each site, what crosses into it. Then the cells as they stand go to the spare strip, and the
-    // next letters to the cells.
+    /// One step of the rule on the ring of L cells: adds to crossed, at each site, what crosses into it; then the cells
+    /// as they stand go to the spare strip, and the next letters to the cells. Cars that drive on where a gap is in
+    /// front of them (elementary rule 184), a car one voice:
+    ///
+    /// ```text
+    /// before: cells 1 1 0 0, crossed 0 0 0 0
+    /// after:  cells 1 0 1 0, crossed 0 0 1 0, spare 1 1 0 0
+    /// ```
+    ///
+    /// Refused by `Stop::ShortStrip` at place 0 where a strip has fewer than L entries, or else by `Stop::BadLetter` at
+    /// the first cell that holds no letter.
     pub fn step(&self, cells: &mut [u8], spare: &mut [u8], crossed: &mut [C]) -> Result<(), Fault>
         ensures promise { DoesOn (open_ring self.now) steps
             (step_strips cells.old spare.old crossed.old) (done_said C.kind result)

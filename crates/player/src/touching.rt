@@ -1,62 +1,28 @@
 // Putting a letter into a cell of the open ring.
-ghost use Rattle.std.specs.Prelude.{◌≡◌, ◌<◌, ◌≤◌, min, [], map, length, take, Ok, Err, if◌then◌else◌, nat_lt, slice_set};
+ghost use Rattle.std.specs.Prelude.{◌≡◌, min, take, Ok, Err, if◌then◌else◌, nat_lt, slice_set};
 ghost use Rattle.fault.specs.declared.Stop.TheVariants.{BadLetter};
 ghost use Rattle.fault.specs.Answers.{plainly};
 ghost use Rattle.fault.specs.Refusals.{refused_at};
 ghost use Rattle.player.specs.Calls.PlayerCall.{touches};
-ghost use Rattle.player.specs.Near.{up_to};
 ghost use Rattle.player.specs.Answers.{done_said, Stays};
-ghost use Rattle.player.specs.Promises.{open_ring, ring_len, sites_ring, touch_strips, touch_gain, tested_by, site_charges, site_opposites, Books, DoesOn};
+ghost use Rattle.player.specs.Promises.{open_ring, ring_len, touch_strips, touch_gain, tested_by, Books, DoesOn};
 
-use crate::ledger::book_front_back;
+use crate::ledger::book_up_to;
 use crate::playing::Playing;
-use crate::sites::{Charges, Opposites, Sites};
+use crate::sites::OppositeCharges;
 use automaton::{Density, Rule};
 use charge::Charge;
 use fault::{Fault, Stop};
 
-// How many sites have a cell of the ring in their window: as many as the window has cells, or all of them.
-fn holders<C: Charge, R: Rule, D: Density<C>>(sites: &Sites<'_, '_, C, R, D>) -> usize
-    ensures { result ≡ min (sites_ring sites.now).bench.density.k (sites_ring sites.now).len }
-{
-    sites.bench.density().k().min(sites.ring.cells.len())
-}
-
-// Adds to touched the charge of each site whose window holds the cell. Each of them starts at the cell or before it.
-fn book_sites<C: Charge, R: Rule, D: Density<C>>(
-    sites: &Sites<'_, '_, C, R, D>,
-    cell: usize,
-    touched: &mut [C],
-)
-    requires { (cell < length sites.now.ring.cells.now)
-        × (length sites.now.ring.cells.now ≤ length touched.old) }
-    ensures { let ring = sites_ring sites.now in
-        let near = min ring.bench.density.k ring.len in
-        let each = site_charges ring.bench sites.now.ring.cells.now in
-        Books C.kind ring.len (up_to C.kind.group ring.len cell near each) touched.old touched.new }
-{
-    let len = sites.ring.cells.len();
-    book_front_back(len, touched, cell, holders(sites), &Charges { sites });
-}
-
-// Takes from touched the charge of each of these sites.
-fn unbook_sites<C: Charge, R: Rule, D: Density<C>>(
-    sites: &Sites<'_, '_, C, R, D>,
-    cell: usize,
-    touched: &mut [C],
-)
-    requires { (cell < length sites.now.ring.cells.now)
-        × (length sites.now.ring.cells.now ≤ length touched.old) }
-    ensures { let ring = sites_ring sites.now in
-        let near = min ring.bench.density.k ring.len in
-        let each = site_opposites ring.bench sites.now.ring.cells.now in
-        Books C.kind ring.len (up_to C.kind.group ring.len cell near each) touched.old touched.new }
-{
-    let len = sites.ring.cells.len();
-    book_front_back(len, touched, cell, holders(sites), &Opposites { sites });
-}
-
 impl<C: Charge, R: Rule, D: Density<C>> Playing<C, R, D> {
+    // How many sites have a cell of the ring in their window: as many as the window has cells, or all of them. Each of
+    // them stands at the cell or before it.
+    fn holders(&self) -> usize
+        ensures { result ≡ min (open_ring self.now).bench.density.k (ring_len self.now) }
+    {
+        self.bench.density().k().min(self.len)
+    }
+
     // The refusal of a touch by its letter, which comes after those of the cells.
     fn check_letter(&self, letter: u8) -> Result<(), Fault>
         ensures { plainly result
@@ -92,12 +58,21 @@ impl<C: Charge, R: Rule, D: Density<C>> Playing<C, R, D> {
             let gain = touch_gain ring.bench site letter old in
             Books C.kind ring.len gain touched.old touched.new }
     {
-        unbook_sites(&self.sites(cells), site, touched);
+        let count = self.holders();
+        let before = OppositeCharges {
+            charges: &self.sites(cells),
+        };
+        book_up_to(self.len, touched, site, count, &before);
         cells[site] = letter;
-        book_sites(&self.sites(cells), site, touched);
+        book_up_to(self.len, touched, site, count, &self.sites(cells));
     }
 
-    // Puts a letter into a cell. At each site it adds to touched the site's charge afterwards less its charge before.
+    /// Puts a letter into a cell of the ring of L cells. At each site it adds to touched the site's charge afterwards
+    /// less its charge before, which is zero but where the site's window holds the cell.
+    ///
+    /// Refused by the first that fits: `Stop::ShortStrip` where a strip has fewer than L entries and
+    /// `Stop::BadPosition` where the cell is not below L, both at place 0, and `Stop::BadLetter` at the first cell that
+    /// holds no letter, or at place L where all do and the one to be put is none.
     pub fn touch(
         &self,
         site: usize,

@@ -4,7 +4,7 @@ use Rattle.std.specs.List.{AllByRecursion}
 use Rattle.fault.specs.Limits.{most_words}
 use Rattle.preset.specs.Entries.{fits}
 use Rattle.criterion.specs.Search.{most_shown}
-use Rattle.player.specs.Answers.{strips}
+use Rattle.player.specs.Promises.{all_strips, meant}
 use Rattle.player.specs.Whole.{with_answers}
 use Rattle.preset_bench.specs.Finds.{preset_rule, preset_density, preset_found}
 use Rattle.preset_bench.proofs.Filled.{filled, filled-sent}
@@ -29,7 +29,7 @@ returns g c =
     let some : length p.entries.now ≤ length a.charges.now = omega (arith, entries-few p, c.requires.charge_room) in
     let allowed : AllByRecursion (λ e. fits S.named e ≡ true) p.entries.now = subst (λ k. AllByRecursion (λ e. fits k e ≡ true) p.entries.now) c.requires.kind p.sound.entries_fit in
     let charges = take (length p.entries.now) c.fill_charges.new.strip in
-    let handed = strips K a.cells.now a.spare.now a.opening.now a.crossed.now a.touched.now in
+    let handed = meant K (all_strips a.cells.now a.spare.now a.opening.now a.crossed.now a.touched.now) in
     let script = map (script_call a.rings.now) a.script.now in
     let new = c.play_tables-found.new in
     let at : ℕ → ℕ → Type 0 = λ n room. PlayFinds K S (preset_rule p.header p.letters.now) (preset_density K p.header charges) handed script (with_answers n (length a.answers.now) (preset_found K p.header p.letters.now charges room most_shown)) new.cells a.answers.now new.answers c.play_tables-found.result in

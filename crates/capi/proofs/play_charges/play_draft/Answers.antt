@@ -2,7 +2,7 @@ use Rattle.std.proofs.Common.{map, length, subst}
 use Rattle.bench.specs.States.{draft_bench}
 use Rattle.bench.specs.Verdicts.{judge_found}
 use Rattle.bench.proofs.Searches.{sizes-pass}
-use Rattle.player.specs.Answers.{strips}
+use Rattle.player.specs.Promises.{all_strips, meant}
 use Rattle.capi.specs.Scripts.{script_call}
 use Rattle.capi.specs.Playing.{AnsweredIf}
 use Rattle.capi.proofs.Performed.{play-finds}
@@ -16,7 +16,7 @@ returns g c =
     let parts = a.draft.parts in
     let r = g.R.Rule.meaning parts.rule in
     let d = g.D.Density.weights K parts.density in
-    let handed = strips K a.cells.now a.spare.now a.opening.now a.crossed.now a.touched.now in
+    let handed = meant K (all_strips a.cells.now a.spare.now a.opening.now a.crossed.now a.touched.now) in
     let script = map (script_call a.rings.now) a.script.now in
     let new = c.play_judged.new in
     let told = c.in_ok-verdict.ensures in

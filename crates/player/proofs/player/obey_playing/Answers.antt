@@ -1,31 +1,27 @@
-use Rattle.player.specs.Answers.{strips}
-use Rattle.player.proofs.Wide.{touches_left, touches_after, steps_left}
+use Rattle.player.specs.Promises.{open_ring}
+use Rattle.player.proofs.Obeyed.{answer_is, touches_obeyed, steps_obeyed, reads_obeyed}
 use Rattle.player.proofs.player.obey_playing.Goals as goal
 
-pub returns-in-Touch-clause-left : goal.returns-in-Touch-clause-left
-returns-in-Touch-clause-left g c =
-    let K = g.C.Charge.kind in
+pub returns-in-Touch-clause-obeys : goal.returns-in-Touch-clause-obeys
+returns-in-Touch-clause-obeys g c =
     let a = c.args in
-    let p = a.playing in
-    let new = c.touch.new in
     rw c.in-Touch.is
-    (touches_left K (g.R.Rule.meaning p.bench.parts.rule) (g.D.Density.weights K p.bench.parts.density) p.len p.some a.cells.now a.spare.now new.cells a.spare.now
-    a.opening.now a.crossed.now a.touched.now a.crossed.now new.touched _ _ _ c.touch.ensures.promise)
+    (answer_is c.done_or_refused-answer.ensures.is
+    (touches_obeyed (open_ring a.playing) a.playing.some a.cells.now a.spare.now c.touch.new.cells a.spare.now
+    a.opening.now a.crossed.now a.touched.now a.opening.now a.crossed.now c.touch.new.touched _ _ c.touch.result c.touch.ensures.promise c.touch.ensures.past))
 
-pub returns-in-Touch-clause-cells : goal.returns-in-Touch-clause-cells
-returns-in-Touch-clause-cells g c =
-    let K = g.C.Charge.kind in
+pub returns-in-Step-clause-obeys : goal.returns-in-Step-clause-obeys
+returns-in-Step-clause-obeys g c =
     let a = c.args in
-    let p = a.playing in
-    rw c.in-Touch.is
-    (touches_after K (g.R.Rule.meaning p.bench.parts.rule) (g.D.Density.weights K p.bench.parts.density) p.len _ _ (strips K a.cells.now a.spare.now a.opening.now a.crossed.now a.touched.now))
-
-pub returns-in-Step-clause-left : goal.returns-in-Step-clause-left
-returns-in-Step-clause-left g c =
-    let K = g.C.Charge.kind in
-    let a = c.args in
-    let p = a.playing in
-    let new = c.step.new in
     rw c.in-Step.is
-    (steps_left K (g.R.Rule.meaning p.bench.parts.rule) (g.D.Density.weights K p.bench.parts.density) p.len p.some a.cells.now a.spare.now new.cells new.spare
-    a.opening.now a.crossed.now a.touched.now new.crossed a.touched.now _ c.step.ensures.promise)
+    (answer_is c.done_or_refused-answer-in-Step.ensures.is
+    (steps_obeyed (open_ring a.playing) a.playing.some a.cells.now a.spare.now c.step.new.cells c.step.new.spare
+    a.opening.now a.crossed.now a.touched.now a.opening.now c.step.new.crossed a.touched.now c.step.result c.step.ensures.promise c.step.ensures.past))
+
+pub returns-in-Read-clause-obeys : goal.returns-in-Read-clause-obeys
+returns-in-Read-clause-obeys g c =
+    let a = c.args in
+    rw c.in-Read.is
+    (answer_is c.read_or_refused-answer.ensures.is
+    (reads_obeyed (open_ring a.playing) a.playing.some a.cells.now a.spare.now a.cells.now a.spare.now
+    a.opening.now a.crossed.now a.touched.now c.read.new.opening c.read.new.crossed c.read.new.touched _ c.read.result c.read.ensures.promise c.read.ensures.kept))

@@ -1,6 +1,6 @@
 use Rattle.std.proofs.Common.{◌∙◌, arith}
 use Rattle.player.proofs.Crossings.{crossing-code}
-use Rattle.player.proofs.sites.CrossingsSiteCharges.charge_at.Goals as goal
+use Rattle.player.proofs.sites.CrossingChargesSiteCharges.charge_at.Goals as goal
 
 pub returns : goal.returns
 returns g c =
