@@ -20,7 +20,7 @@ returns g c =
     let sent = ap (map S.entry) c.deref.ensures.value ∙ c.in_ok-charges.ensures in
     let others_sent = ap (map S.entry) c.deref-2.ensures.value ∙ c.in_ok-others.ensures in
     let room = c.deref_mut.ensures.len ∙ c.in_ok-crossings.ensures.len in
-    let same = c.compare_shape.ensures ∙ ap (λ (k : ChargeKind). compare_notation k p.header q.header) c.requires.first in
+    let same = c.compare_notation.ensures ∙ ap (λ (k : ChargeKind). compare_notation k p.header q.header) c.requires.first in
     IfOk-weaker c.line.result _ _ (λ l is.
     compare-line K S c.args.subject.now p.header p.entries.now q.header q.entries.now c.deref.result.now c.deref-2.result.now (length c.deref_mut.result.now) _ room refl sent others_sent l
-    (told K S _ _ _ _ _ _ _ _ _ _ c.compare_tables-found.ensures c.sent_found.result c.sent_found.ensures Compare c.args.subject.now (notation_of c.compare_shape.result) (compare_notation S.named p.header q.header) same l is)) c.line.ensures
+    (told K S _ _ _ _ _ _ _ _ _ _ c.compare_tables-found.ensures c.sent_found.result c.sent_found.ensures Compare c.args.subject.now (notation_of c.compare_notation.result) (compare_notation S.named p.header q.header) same l is)) c.line.ensures

@@ -22,10 +22,10 @@ returns-in_err-found g c =
 pub page_line-requires : goal.page_line-requires
 page_line-requires g c =
     let p = c.args.preset in
-    let notation = c.crossing_shape.ensures in
+    let notation = c.crossing_notation.ensures in
     let z = p.sound.sized in
     let m = ap (λ (s : Notation). s.m) notation in
-    let few : c.crossing_shape.result.q ^ c.crossing_shape.result.m ≤ most_words = subst (λ (s : Notation). s.q ^ s.m ≤ most_words) (sym notation) (crossings_few p.header z) in
+    let few : c.crossing_notation.result.q ^ c.crossing_notation.result.m ≤ most_words = subst (λ (s : Notation). s.q ^ s.m ≤ most_words) (sym notation) (crossings_few p.header z) in
     (omega (arith, m, z.window, z.width), few, omega (arith, few, c.as_mut_slice-crossings.ensures.len, c.judge.auto.crossings, c.in_ok-strip.ensures.len))
 
 pub returns : goal.returns
@@ -35,6 +35,6 @@ returns g c =
     let p = c.args.preset in
     let sent = ap (map S.entry) c.deref.ensures.value ∙ c.in_ok-charges.ensures in
     let room = c.as_mut_slice-crossings.ensures.len ∙ c.in_ok-strip.ensures.len in
-    let same = c.crossing_shape.ensures ∙ ap (λ (k : ChargeKind). crossing_notation k p.header) c.requires in
+    let same = c.crossing_notation.ensures ∙ ap (λ (k : ChargeKind). crossing_notation k p.header) c.requires in
     crossings-page K S p.header p.letters.now p.entries.now c.deref.result.now (length c.as_mut_slice-crossings.result.now) _ room refl sent _
-    (page-told K S _ _ p.header p.letters.now c.deref.result.now _ c.judge.new.crossings _ _ c.in_ok-found.found c.in_ok-found.ensures (notation_of c.crossing_shape.result) same c.in_ok-page_line.field-0 c.in_ok-page_line.ensures)
+    (page-told K S _ _ p.header p.letters.now c.deref.result.now _ c.judge.new.crossings _ _ c.in_ok-found.found c.in_ok-found.ensures (notation_of c.crossing_notation.result) same c.in_ok-page_line.field-0 c.in_ok-page_line.ensures)

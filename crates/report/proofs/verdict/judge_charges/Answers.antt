@@ -15,7 +15,7 @@ returns g c =
     let p = c.args.preset in
     let sent = ap (map S.entry) c.deref.ensures.value ∙ c.in_ok-charges.ensures in
     let room = c.deref_mut.ensures.len ∙ c.in_ok-crossings.ensures.len in
-    let same = c.judge_shape.ensures ∙ ap (λ (k : ChargeKind). judge_notation k p.header) c.requires in
+    let same = c.judge_notation.ensures ∙ ap (λ (k : ChargeKind). judge_notation k p.header) c.requires in
     IfOk-weaker c.line.result _ _ (λ l is.
     judge-line K S c.args.name.now p.header p.letters.now p.entries.now c.deref.result.now (length c.deref_mut.result.now) _ room refl sent l
-    (told K S _ _ _ _ _ _ _ _ _ _ c.judge-found.ensures c.sent_found.result c.sent_found.ensures Judge c.args.name.now (notation_of c.judge_shape.result) (judge_notation S.named p.header) same l is)) c.line.ensures
+    (told K S _ _ _ _ _ _ _ _ _ _ c.judge-found.ensures c.sent_found.result c.sent_found.ensures Judge c.args.name.now (notation_of c.judge_notation.result) (judge_notation S.named p.header) same l is)) c.line.ensures
