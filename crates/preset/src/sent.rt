@@ -27,6 +27,31 @@ pub trait Sent: Charge {
             ≡ (if fits sending.named entry then Some entry else None) };
 }
 
+/// Does what is written over a type of charges for a kind that is known as the program runs. It is one of
+///
+/// ```text
+/// by_kind!(kind, judge::<_>(x))        // judge::<Voices>(x) where the kind is voices, and so on
+/// by_kind!(kind, zero => judge(zero))  // the same with the zero of the kind's charges, of which arrays can be made
+/// ```
+#[macro_export]
+macro_rules! by_kind {
+    (@arm $charge:ident, $function:ident::<_ $(, $more:ty)*>($($argument:expr),* $(,)?)) => {
+        $function::<$crate::charge::$charge $(, $more)*>($($argument),*)
+    };
+    (@arm $charge:ident, $zero:ident => $work:expr) => {{
+        let $zero = <$crate::charge::$charge as $crate::charge::Charge>::zero();
+        $work
+    }};
+    ($kind:expr, $($work:tt)+) => {
+        match $kind {
+            $crate::charge::ChargeKind::Voices => $crate::by_kind!(@arm Voices, $($work)+),
+            $crate::charge::ChargeKind::Pitch => $crate::by_kind!(@arm Pitch, $($work)+),
+            $crate::charge::ChargeKind::Channels => $crate::by_kind!(@arm Channels, $($work)+),
+            $crate::charge::ChargeKind::Both => $crate::by_kind!(@arm Both, $($work)+),
+        }
+    };
+}
+
 // The pitch class of a number, if it is one.
 fn pitch_of(plain: u64) -> Option<Pitch>
     ensures { option_map class_of result
