@@ -1,5 +1,5 @@
 -- Strips of zeros mean zeros. Assumes nothing.
-use Rattle.std.proofs.Common.{◌≡◌, ℕ, zero, suc, List, map, replicate, refl, ap, sym, subst, ◌∷◌, ◌∙◌}
+use Rattle.std.proofs.Common.{◌≡◌, ℕ, zero, suc, List, map, replicate, refl, ap, subst, ◌∷◌, ◌∙◌}
 use Rattle.fault.specs.Limits.{most_cells}
 use Rattle.charge.specs.Groups.{Kind}
 use Rattle.charge.specs.declared.kind.ChargeKind.{ChargeKind}
@@ -20,12 +20,11 @@ all-zero K cells none is =
     let e : map K.means (replicate most_cells none) ≡ replicate most_cells K.group.zero = all-mean K.means none most_cells ∙ ap (replicate most_cells) is in
     λ j. record { cells = cells; spare = replicate most_cells 0; opening = e j; crossed = e j; touched = e j }
 
--- what is played on strips of a charge that means zero is promised by the kind
-pub played_as : {k kind : ChargeKind} {p : Preset} {script : List Asking} {cells left : List ℕ} {old new : List ScriptAnswer} {a : JudgeAnswer} (none : (delivered kind).Charges) →
-    k ≡ kind →
+-- what is played on strips of a charge that means zero
+pub played-zeroed : (kind : ChargeKind) (p : Preset) (script : List Asking) (cells left : List ℕ) (old new : List ScriptAnswer) (a : JudgeAnswer) (none : (delivered kind).Charges) →
+    (delivered kind).meaning.means none ≡ (delivered kind).meaning.group.zero →
     let clear = replicate most_cells none in
-    PlayedOn (delivered kind).meaning (delivered kind).sending p script (handed (delivered kind).meaning cells clear clear clear) left old new a →
-    (delivered kind).meaning.means none ≡ (delivered kind).meaning.group.zero → PlayedAs k p script cells left old new a
-played_as {kind = kind} {p = p} {script = script} {cells = cells} {left = left} {old = old} {new = new} {a = a} none is played clear =
+    PlayedOn (delivered kind).meaning (delivered kind).sending p script (handed (delivered kind).meaning cells clear clear clear) left old new a → PlayedAs kind p script cells left old new a
+played-zeroed kind p script cells left old new a none clear =
     let d = delivered kind in
-    subst (λ k. PlayedAs k p script cells left old new a) (sym is) (subst (λ s. PlayedOn d.meaning d.sending p script s left old new a) (all-zero d.meaning cells none clear) played)
+    subst (λ s. PlayedOn d.meaning d.sending p script s left old new a) (all-zero d.meaning cells none clear)

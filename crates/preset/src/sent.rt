@@ -27,27 +27,23 @@ pub trait Sent: Charge {
             ≡ (if fits sending.named entry then Some entry else None) };
 }
 
-/// Does what is written over a type of charges for a kind that is known as the program runs. It is one of
+/// Calls a generic function at the charges of a kind that is known only as the program runs. The first type parameter of
+/// the function is that of the charges, and is written `_`:
 ///
 /// ```text
-/// by_kind!(kind, judge::<_>(x))        // judge::<Voices>(x) where the kind is voices, and so on
-/// by_kind!(kind, zero => judge(zero))  // the same with the zero of the kind's charges, of which arrays can be made
+/// by_kind!(preset.kind, judge::<_>(preset))    // judge::<Voices>(preset) where the kind is voices, and so on
 /// ```
 #[macro_export]
 macro_rules! by_kind {
-    (@arm $charge:ident, $function:ident::<_ $(, $more:ty)*>($($argument:expr),* $(,)?)) => {
+    (@at $charge:ident $function:ident::<_ $(, $more:ty)*>($($argument:expr),* $(,)?)) => {
         $function::<$crate::charge::$charge $(, $more)*>($($argument),*)
     };
-    (@arm $charge:ident, $zero:ident => $work:expr) => {{
-        let $zero = <$crate::charge::$charge as $crate::charge::Charge>::zero();
-        $work
-    }};
-    ($kind:expr, $($work:tt)+) => {
+    ($kind:expr, $($call:tt)+) => {
         match $kind {
-            $crate::charge::ChargeKind::Voices => $crate::by_kind!(@arm Voices, $($work)+),
-            $crate::charge::ChargeKind::Pitch => $crate::by_kind!(@arm Pitch, $($work)+),
-            $crate::charge::ChargeKind::Channels => $crate::by_kind!(@arm Channels, $($work)+),
-            $crate::charge::ChargeKind::Both => $crate::by_kind!(@arm Both, $($work)+),
+            $crate::charge::ChargeKind::Voices => $crate::by_kind!(@at Voices $($call)+),
+            $crate::charge::ChargeKind::Pitch => $crate::by_kind!(@at Pitch $($call)+),
+            $crate::charge::ChargeKind::Channels => $crate::by_kind!(@at Channels $($call)+),
+            $crate::charge::ChargeKind::Both => $crate::by_kind!(@at Both $($call)+),
         }
     };
 }

@@ -7,7 +7,7 @@ ghost use Rattle.report.specs.Reports.{CompareLine, ComparedAs, CompareTells, co
 
 use crate::charges::charges_of;
 use crate::compare::compare_tables;
-use crate::report_line::{ReportLine, Question, LineNotation};
+use crate::report_line::{LineNotation, Question, ReportLine};
 use crate::texts::{Asked, kinds_line, refused_line};
 use crate::verdict::CROSSING_ROOM;
 use criterion::MOST_SHOWN;
@@ -71,7 +71,10 @@ fn compare_kind(
     ensures { IfOk result
         (ComparedAs true first.entry.kind subject.now (preset_of first.entry) (preset_of second.entry)) }
 {
-    by_kind!(first.kind, compare_charges::<_>(alloc, subject, first, second))
+    by_kind!(
+        first.kind,
+        compare_charges::<_>(alloc, subject, first, second)
+    )
 }
 
 // The line of two presets of any kinds.

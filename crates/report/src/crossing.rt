@@ -9,7 +9,7 @@ ghost use Rattle.report.specs.Texts.{row_text, rows_text, notation_of};
 ghost use Rattle.report.specs.Reports.{CrossingsPage, CrossedAs, CrossingsTell, crossing_notation};
 
 use crate::charges::charges_of;
-use crate::report_line::{ReportLine, LineNotation};
+use crate::report_line::{LineNotation, ReportLine};
 use crate::rows::rows_text;
 use crate::verdict::{CROSSING_ROOM, judge_notation};
 use bench::Break;

@@ -5,7 +5,7 @@ ghost use Rattle.report.specs.Texts.{notation_of};
 ghost use Rattle.report.specs.Reports.{JudgeLine, JudgedAs, judge_notation};
 
 use crate::charges::charges_of;
-use crate::report_line::{ReportLine, Question, LineNotation};
+use crate::report_line::{LineNotation, Question, ReportLine};
 use crate::texts::Asked;
 use criterion::MOST_SHOWN;
 use fault::limits::MOST_WORDS;
@@ -29,7 +29,11 @@ pub(crate) fn judge_notation(preset: Loaded<'_>) -> LineNotation
 }
 
 // The line of a preset of one kind.
-fn judge_charges<C: Sent>(alloc: Global, name: &str, preset: Loaded<'_>) -> Result<ReportLine, AllocError>
+fn judge_charges<C: Sent>(
+    alloc: Global,
+    name: &str,
+    preset: Loaded<'_>,
+) -> Result<ReportLine, AllocError>
     requires { preset.kind ≡ C.sending.named }
     ensures { IfOk result (JudgeLine C.kind C.sending name.now (preset_of preset.entry)) }
 {
@@ -47,7 +51,11 @@ fn judge_charges<C: Sent>(alloc: Global, name: &str, preset: Loaded<'_>) -> Resu
 
 // The line of a preset of any kind.
 #[tactic(auto, using(crate::proofs::OfKind::judged_as))]
-pub(crate) fn judge_kind(alloc: Global, name: &str, preset: Loaded<'_>) -> Result<ReportLine, AllocError>
+pub(crate) fn judge_kind(
+    alloc: Global,
+    name: &str,
+    preset: Loaded<'_>,
+) -> Result<ReportLine, AllocError>
     ensures { IfOk result (JudgedAs preset.entry.kind name.now (preset_of preset.entry)) }
 {
     by_kind!(preset.kind, judge_charges::<_>(alloc, name, preset))

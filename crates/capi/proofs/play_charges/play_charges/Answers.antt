@@ -1,4 +1,4 @@
-use Rattle.std.proofs.Common.{◌≡◌, ℕ, length, map, take, sym, subst}
+use Rattle.std.proofs.Common.{ℕ, length, take, sym, subst}
 use Rattle.std.proofs.lemmas.List.{length-map}
 use Rattle.fault.specs.Limits.{most_words}
 use Rattle.criterion.specs.Search.{most_shown}
