@@ -5,8 +5,8 @@ fn main() {
     let library = Path::new(env!("CARGO_MANIFEST_DIR")).join("../crates/capi/out");
     println!(
         "cargo:rerun-if-changed={}",
-        library.join("libcapi.a").display()
+        library.join("libringbench.a").display()
     );
     println!("cargo:rustc-link-search=native={}", library.display());
-    println!("cargo:rustc-link-lib=static=capi");
+    println!("cargo:rustc-link-lib=static=ringbench");
 }

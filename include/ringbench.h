@@ -1,6 +1,6 @@
 /* The ring bench for C: presets read, judged and played.
  *
- * Link crates/capi/out/libcapi.a, which tools/capi builds. It needs memcpy, memmove and memset, and nothing else: no heap,
+ * Link crates/capi/out/libringbench.a, which tools/capi builds. It needs memcpy, memmove and memset, and nothing else: no heap,
  * no files, nothing kept from call to call. A call may be made from any thread, on buffers that no other thread uses.
  *
  * A buffer is a pointer and then a count of its items (of bytes for `bytes`). No pointer is NULL, a count may be 0, and a

@@ -6,15 +6,11 @@ use Rattle.fault.specs.Answers.{at_front}
 use Rattle.fault.specs.Limits.{most_words}
 use Rattle.fault.specs.Refusals.{Refusal}
 use Rattle.charge.specs.Groups.{Kind}
-use Rattle.charge.specs.Kinds.{voices, pitch, channels, both}
 use Rattle.charge.specs.declared.kind.ChargeKind.{ChargeKind}
-use Rattle.charge.specs.declared.kind.ChargeKind.TheVariants.{Voices, Pitch, Channels, Both}
 use Rattle.automaton.specs.Meanings.{Local, Weights}
 use Rattle.criterion.specs.Search.{most_shown}
 use Rattle.preset.specs.Presets.{Preset}
-use Rattle.preset.specs.Sending.{Sending, voices_sending, pitch_sending, channels_sending, both_sending}
-use Rattle.preset.specs.declared.entry.Entry.{Entry}
-use Rattle.preset.specs.declared.header.Header.{Header}
+use Rattle.preset.specs.Sending.{Sending, delivered}
 use Rattle.bench.specs.declared.state.Break.{Break}
 use Rattle.player.specs.declared.call.Answer.{Answer}
 use Rattle.player.specs.Answers.{answer_meant}
@@ -29,7 +25,7 @@ use Rattle.capi.specs.Judging.{VerdictIs, told_of}
 use Rattle.capi.specs.Scripts.{Asking, zeroed, session}
 
 module _ {C : Type 0} (K : Kind C) (S : Sending C) (r : Local) (d : Weights K.group.Carrier) (handed : PlayerStrips K.group.Carrier) (script : List Asking) where
-  -- some answers that are the session's stand at the at_front of the strip of answers, and the cells are the session's
+  -- some answers that are the session's stand at the front of the strip of answers, and the cells are the session's
   pub record Answered (cells : List ℕ) (old new : List ScriptAnswer) : Type 0 where
     pub given : List (Option (Answer C))
     pub said : map (option_map (answer_meant K)) given ≡ (session K r d handed script).said
@@ -56,27 +52,18 @@ module _ {C : Type 0} (K : Kind C) (S : Sending C) (r : Local) (d : Weights K.gr
 
 -- A preset of one kind, judged and played on: some charges that are sent as its entries are judged, once there is room for
 -- the answers.
-module _ {C : Type 0} (K : Kind C) (S : Sending C) (h : Header) (letters : List ℕ) (entries : List Entry) (script : List Asking)
-    (left : List ℕ) (old new : List ScriptAnswer) where
-  pub record PlayedOn (handed : PlayerStrips K.group.Carrier) (answer : JudgeAnswer) : Type 0 where
-    pub charges : List C
-    pub sent : map S.entry charges ≡ entries
-    pub verdict : Result (Option (Break C)) Fault
-    pub finds : PlayFinds K S (preset_rule h letters) (preset_density K h charges) handed script (with_answers (length script) (length old) (preset_found K h letters charges most_words most_shown)) left old new verdict
-    pub told : answer ≡ told_of S verdict
+pub record PlayedOn {C : Type 0} (K : Kind C) (S : Sending C) (p : Preset) (script : List Asking) (handed : PlayerStrips K.group.Carrier) (left : List ℕ) (old new : List ScriptAnswer) (answer : JudgeAnswer) : Type 0 where
+  pub charges : List C
+  pub sent : map S.entry charges ≡ p.entries
+  pub verdict : Result (Option (Break C)) Fault
+  pub finds : PlayFinds K S (preset_rule p.head.header p.letters) (preset_density K p.head.header charges) handed script (with_answers (length script) (length old) (preset_found K p.head.header p.letters charges most_words most_shown)) left old new verdict
+  pub told : answer ≡ told_of S verdict
 
--- with strips of zeros for all but the cells
-abbrev pub PlayedZeroed : {C : Type 0} → Kind C → Sending C → Header → List ℕ → List Entry → List Asking → List ℕ → List ℕ → List ScriptAnswer → List ScriptAnswer → JudgeAnswer → Type 0
-PlayedZeroed K S h letters entries script cells left old new = PlayedOn K S h letters entries script left old new (zeroed K cells)
-
--- of any kind
-abbrev pub PlayedAs : ChargeKind → Header → List ℕ → List Entry → List Asking → List ℕ → List ℕ → List ScriptAnswer → List ScriptAnswer → JudgeAnswer → Type 0
-PlayedAs Voices = PlayedZeroed voices voices_sending
-PlayedAs Pitch = PlayedZeroed pitch pitch_sending
-PlayedAs Channels = PlayedZeroed channels channels_sending
-PlayedAs Both = PlayedZeroed both both_sending
+-- of any kind, with strips of zeros for all but the cells
+abbrev pub PlayedAs : ChargeKind → Preset → List Asking → List ℕ → List ℕ → List ScriptAnswer → List ScriptAnswer → JudgeAnswer → Type 0
+PlayedAs kind p script cells = let d = delivered kind in PlayedOn d.meaning d.sending p script (zeroed d.meaning cells)
 
 -- of some bytes, by what reading them as a preset answers; a refusal writes nothing
 abbrev pub PlayTells : Result Preset Refusal → List Asking → List ℕ → List ℕ → List ScriptAnswer → List ScriptAnswer → JudgeAnswer → Type 0
-PlayTells (Ok p) = PlayedAs p.head.kind p.head.header p.letters p.entries
+PlayTells (Ok p) = PlayedAs p.head.kind p
 PlayTells (Err f) = λ script cells left old new answer. (answer ≡ judge_answer (Err f)) × (left ≡ cells) × (new ≡ old)

@@ -1,5 +1,5 @@
 -- Scripts from C, and how they are played. Assumes nothing.
-use Rattle.std.specs.Prelude.{◌≡◌, ℕ, suc, ◌+◌, cond, List, [], ◌∷◌, ◌++◌, length, take, drop, replicate, fold, Some, None, Ok, Err, Option, Result, ◌==◌, nat_le}
+use Rattle.std.specs.Prelude.{◌≡◌, ℕ, suc, ◌+◌, cond, List, [], ◌∷◌, ◌++◌, length, map, take, drop, replicate, fold, Some, None, Ok, Err, Option, Result, ◌==◌, nat_le}
 use Rattle.fault.specs.declared.Fault.{Fault}
 use Rattle.fault.specs.declared.Stop.TheVariants.{BadLength, ShortStrip}
 use Rattle.fault.specs.Answers.{and_then}
@@ -11,6 +11,7 @@ use Rattle.automaton.specs.Meanings.{Local, Weights}
 use Rattle.std.specs.Option.{option_map}
 use Rattle.player.specs.declared.call.Call.{Call}
 use Rattle.player.specs.Answers.{call_meant}
+use Rattle.player.specs.Promises.{all_strips, meant}
 use Rattle.player.specs.Calls.{PlayerCall, PlayerAnswer, PlayerStrips}
 use Rattle.player.specs.Calls.PlayerCall.{opens, touches, steps, reads, closes}
 use Rattle.player.specs.Calls.PlayerAnswer.{refused}
@@ -18,6 +19,7 @@ use Rattle.player.specs.Logs.{allowed, standing}
 use Rattle.player.specs.Logs.Log.{made}
 use Rattle.player.specs.Scripts.{PlayedScript, said_to, left_by, cells_after, played_more}
 use Rattle.capi.specs.declared.script.ScriptCall.{ScriptCall}
+use Rattle.capi.specs.declared.script.Script.{Script}
 
 -- what a struct asks: a call of the player's, nothing, or an open that has no ring to hand over, by its refusal
 abbrev pub Asking : Type 0
@@ -39,6 +41,10 @@ script_call letters c =
     (cond (c.call == 5) (Ok (Some closes))
     (Ok None)))))
 
+-- what a script asks, struct by struct
+abbrev pub script_asks : Script → List Asking
+script_asks s = map (script_call s.rings.now) s.calls.now
+
 -- the same of what the code makes of a struct
 abbrev pub asks : Result (Option Call) Fault → Asking
 asks (Ok call) = Ok (option_map call_meant call)
@@ -51,6 +57,10 @@ refused_open L f = cond (allowed (opens []) L) (Some (refused f)) None
 -- an answer that is no line of the log
 abbrev pub unplayed : {A : Type 0} → PlayedScript A → Option (PlayerAnswer A) → PlayedScript A
 unplayed p a = record { log = p.log; strips = p.strips; said = p.said ++ (a ∷ []) }
+
+-- strips of cells and of charges, with spare cells of zeros for the longest ring
+abbrev pub handed : {C : Type 0} → (K : Kind C) → List ℕ → List C → List C → List C → PlayerStrips K.group.Carrier
+handed K cells opening crossed touched = meant K (all_strips cells (replicate most_cells 0) opening crossed touched)
 
 -- strips with the caller's cells; the others are of zeros and as long as the longest ring
 abbrev pub zeroed : {C : Type 0} → (K : Kind C) → List ℕ → PlayerStrips K.group.Carrier

@@ -2,15 +2,17 @@
 ghost use Rattle.std.specs.Prelude.{◌≡◌, ◌+◌, ◌-◌, ◌^◌, ◌≤◌, map, length, MatchResult};
 ghost use Rattle.fault.specs.Limits.{most_words};
 ghost use Rattle.fault.specs.Answers.{at_front};
+ghost use Rattle.preset.specs.Loads.{preset_of};
 ghost use Rattle.preset.specs.Sizes.{Sized};
 ghost use Rattle.capi.specs.Judging.{JudgedOn};
 
 use crate::answers::{JudgeAnswer, judge_answer};
+use crate::entries::fill_entries;
 use bench::Break;
 use charge::Charge;
 use fault::Fault;
 use preset::{Entry, Header, Loaded, Sent};
-use preset_bench::{fill_charges, judge};
+use preset_bench::judge;
 
 // How many crossings were written: one for each word of a letter less than the label's, unless judging was refused.
 fn crossing_count<C: Charge>(header: Header, found: &Result<Option<Break<C>>, Fault>) -> usize
@@ -46,13 +48,10 @@ pub(crate) fn judge_charges<C: Sent>(
     requires kind { preset.kind ≡ C.sending.named }
     requires charge_room { length charges.old ≡ most_words }
     requires crossing_room { length work.old ≡ most_words }
-    ensures { let p = preset.entry in
-        JudgedOn C.kind C.sending p.header p.letters.now p.entries.now
+    ensures { JudgedOn C.kind C.sending (preset_of preset.entry)
         crossings.old crossings.new ring.old ring.new result }
 {
-    let Ok(()) = fill_charges(preset.entries, charges) else {
-        unreachable!()
-    };
+    fill_entries(preset, charges);
     let charges = &charges[..preset.entries.len()];
     let room = crossings.len().min(work.len());
     let strip = &mut work[..room];

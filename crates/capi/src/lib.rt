@@ -3,11 +3,10 @@
 #![tactic(auto)]
 
 mod answers;
+mod entries;
 mod judge_charges;
-mod judge_kinds;
 mod judge_preset;
 mod play_charges;
-mod play_kinds;
 mod play_preset;
 mod play_script;
 mod read_preset;

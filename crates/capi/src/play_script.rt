@@ -1,19 +1,20 @@
 // A script played on a bench that holds.
-ghost use Rattle.std.specs.Prelude.{◌≡◌, ◌≤◌, map, length};
+ghost use Rattle.std.specs.Prelude.{◌≡◌, ◌≤◌, length};
 ghost use Rattle.std.specs.Option.{option_map};
 ghost use Rattle.bench.specs.States.{holding_bench};
 ghost use Rattle.player.specs.Answers.{answer_meant, open_cells};
 ghost use Rattle.player.specs.Promises.{all_strips, meant, player_ring, player_holding, ring_len};
 ghost use Rattle.fault.specs.Refusals.{refusal};
-ghost use Rattle.capi.specs.Scripts.{asks, script_call, refused_open, Obeys};
+ghost use Rattle.capi.specs.Scripts.{asks, script_asks, handed, refused_open, Obeys};
 ghost use Rattle.capi.specs.Playing.{Answered};
 
 use crate::answers::{ScriptAnswer, script_answer};
-use crate::script::ScriptCall;
+use crate::script::Script;
 use automaton::{Density, Rule};
 use bench::Holding;
 use charge::Charge;
 use fault::Fault;
+use fault::limits::MOST_CELLS;
 use player::{Answer, Call, Player, PlayerOf, obey};
 use preset::Sent;
 
@@ -62,25 +63,26 @@ fn answer_one<C: Charge, R: Rule, D: Density<C>>(
 // Answers each struct of a script, in the order of the script.
 pub(crate) fn play_script<C: Sent, R: Rule + Drop, D: Density<C> + Drop>(
     bench: Holding<C, R, D>,
-    script: &[ScriptCall],
-    rings: &[u8],
-    cells: &mut [u8],
-    spare: &mut [u8],
+    script: Script<'_>,
     opening: &mut [C],
     crossed: &mut [C],
     touched: &mut [C],
+    cells: &mut [u8],
     answers: &mut [ScriptAnswer],
 )
-    requires { length script.now ≤ length answers.old }
+    requires { length script.calls.now ≤ length answers.old }
     ensures { let b = holding_bench bench in
         Answered C.kind C.sending b.rule b.density
-        (meant C.kind (all_strips cells.old spare.old opening.old crossed.old touched.old))
-        (map (script_call rings.now) script.now) cells.new answers.old answers.new }
+        (handed C.kind cells.old opening.old crossed.old touched.old)
+        (script_asks script.entry) cells.new answers.old answers.new }
 {
+    let mut spare = [0u8; MOST_CELLS];
     let mut player = Player::Idle(bench);
-    for i in 0..script.len() {
-        let asked = script[i].asked(rings);
-        let (next, answer) = answer_one(player, asked, cells, spare, opening, crossed, touched);
+    for i in 0..script.calls.len() {
+        let asked = script.calls[i].asked(script.rings);
+        let (next, answer) = answer_one(
+            player, asked, cells, &mut spare, opening, crossed, touched,
+        );
         player = next;
         answers[i] = script_answer(answer);
     }

@@ -28,6 +28,13 @@ pub struct ScriptCall {
     pub len: usize,
 }
 
+// The calls of a script, and the letters of all its rings.
+#[derive(Clone, Copy)]
+pub(crate) struct Script<'a> {
+    pub calls: &'a [ScriptCall],
+    pub rings: &'a [u8],
+}
+
 // A ring from the letters of all rings. Its length is tested here too, before their end, so that the lowest code that fits
 // is answered.
 fn ring_at(letters: &[u8], at: usize, len: usize) -> Result<&[u8], Fault>

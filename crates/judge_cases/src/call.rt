@@ -8,7 +8,8 @@ use crate::show::{MARK, write_end, write_fault};
 use crate::strips::{Rooms, JudgeStrips};
 use automaton::{Density, Rule, ShownLetters, next_ring, total};
 use bench::{Draft, compare};
-use charge::{Both, Channels, ChargeKind, Pitch, Voices};
+use charge::{ChargeKind, Voices};
+use preset::by_kind;
 use std::alloc::Global;
 use std::io;
 use std::io::Write;
@@ -129,8 +130,7 @@ fn case_as<C: Tried, W: Write>(
     }
 }
 
-// Makes the call of a line and prints its result, if it has one of its own. By cases on the kind, since what is done for
-// each is a generic function.
+// Makes the call of a line and prints its result, if it has one of its own.
 fn case<W: Write>(alloc: Global, out: &mut W, numbers: &mut Numbers) -> Result<(), CaseError> {
     let call = CaseCall::from(numbers.count());
     let kind = ChargeKind::try_from(numbers.plain()).unwrap_or(ChargeKind::Both);
@@ -138,12 +138,7 @@ fn case<W: Write>(alloc: Global, out: &mut W, numbers: &mut Numbers) -> Result<(
         crossings: numbers.count(),
         ring: numbers.count(),
     };
-    match kind {
-        ChargeKind::Voices => case_as::<Voices, W>(alloc, out, numbers, call, rooms),
-        ChargeKind::Pitch => case_as::<Pitch, W>(alloc, out, numbers, call, rooms),
-        ChargeKind::Channels => case_as::<Channels, W>(alloc, out, numbers, call, rooms),
-        ChargeKind::Both => case_as::<Both, W>(alloc, out, numbers, call, rooms),
-    }
+    by_kind!(kind, case_as::<_, W>(alloc, out, numbers, call, rooms))
 }
 
 // Makes the call of a line and prints its result.

@@ -1,12 +1,13 @@
 -- Charges of each kind as entries of a preset. Assumes nothing.
 use Rattle.std.specs.Prelude.{pos}
+use Rattle.charge.specs.Groups.{Kind}
 use Rattle.charge.specs.declared.kind.ChargeKind.{ChargeKind}
 use Rattle.charge.specs.declared.voices.Voices.{Voices}
 use Rattle.charge.specs.declared.pitch.Pitch.{Pitch}
 use Rattle.charge.specs.declared.channels.Channels.{Channels}
 use Rattle.charge.specs.declared.both.Both.{Both}
 use Rattle.charge.specs.declared.kind.ChargeKind.TheVariants as kind
-use Rattle.charge.specs.Kinds.{class_of}
+use Rattle.charge.specs.Kinds.{class_of, voices, pitch, channels, both}
 use Rattle.preset.specs.declared.entry.Entry.{Entry}
 
 -- Which of the delivered kinds the charges are of, and the entry that each is sent as.
@@ -25,3 +26,16 @@ channels_sending = record { named = kind.Channels; entry = λ c. record { signed
 
 abbrev pub both_sending : Sending Both
 both_sending = record { named = kind.Both; entry = λ b. record { signed = b.voices.count; plain = class_of b.pitch } }
+
+-- A delivered kind: its charges, what they mean and how they are sent.
+pub record Delivered : Type 1 where
+  pub Charges : Type 0
+  pub meaning : Kind Charges
+  pub sending : Sending Charges
+
+-- the kind that a preset names: what is said of each kind goes by this
+abbrev pub delivered : ChargeKind → Delivered
+delivered kind.Voices = record { Charges = Voices; meaning = voices; sending = voices_sending }
+delivered kind.Pitch = record { Charges = Pitch; meaning = pitch; sending = pitch_sending }
+delivered kind.Channels = record { Charges = Channels; meaning = channels; sending = channels_sending }
+delivered kind.Both = record { Charges = Both; meaning = both; sending = both_sending }

@@ -17,6 +17,7 @@ mod item_limits;
 mod preset_strips;
 mod writer;
 
+pub use charge;
 pub use entry::Entry;
 pub use header::Header;
 pub use loaded::Loaded;

@@ -27,6 +27,27 @@ pub trait Sent: Charge {
             ≡ (if fits sending.named entry then Some entry else None) };
 }
 
+/// Calls a generic function at the charges of a kind that is known only as the program runs. The first type parameter of
+/// the function is that of the charges, and is written `_`:
+///
+/// ```text
+/// by_kind!(preset.kind, judge::<_>(preset))    // judge::<Voices>(preset) where the kind is voices, and so on
+/// ```
+#[macro_export]
+macro_rules! by_kind {
+    (@at $charge:ident $function:ident::<_ $(, $more:ty)*>($($argument:expr),* $(,)?)) => {
+        $function::<$crate::charge::$charge $(, $more)*>($($argument),*)
+    };
+    ($kind:expr, $($call:tt)+) => {
+        match $kind {
+            $crate::charge::ChargeKind::Voices => $crate::by_kind!(@at Voices $($call)+),
+            $crate::charge::ChargeKind::Pitch => $crate::by_kind!(@at Pitch $($call)+),
+            $crate::charge::ChargeKind::Channels => $crate::by_kind!(@at Channels $($call)+),
+            $crate::charge::ChargeKind::Both => $crate::by_kind!(@at Both $($call)+),
+        }
+    };
+}
+
 // The pitch class of a number, if it is one.
 fn pitch_of(plain: u64) -> Option<Pitch>
     ensures { option_map class_of result

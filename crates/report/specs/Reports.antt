@@ -6,15 +6,12 @@ use Rattle.fault.specs.Limits.{most_words}
 use Rattle.fault.specs.Refusals.{Refusal}
 use Rattle.charge.specs.Groups.{Kind}
 use Rattle.charge.specs.Numbers.{number_of}
-use Rattle.charge.specs.Kinds.{voices, pitch, channels, both}
 use Rattle.charge.specs.declared.kind.ChargeKind.{ChargeKind}
-use Rattle.charge.specs.declared.kind.ChargeKind.TheVariants.{Voices, Pitch, Channels, Both}
 use Rattle.automaton.specs.Meanings.{total}
 use Rattle.criterion.specs.Answers.{ring_written, unless_refused}
 use Rattle.criterion.specs.Search.{most_shown}
 use Rattle.preset.specs.Presets.{Preset}
-use Rattle.preset.specs.Sending.{Sending, voices_sending, pitch_sending, channels_sending, both_sending}
-use Rattle.preset.specs.declared.entry.Entry.{Entry}
+use Rattle.preset.specs.Sending.{Sending, delivered}
 use Rattle.preset.specs.declared.header.Header.{Header}
 use Rattle.bench.specs.declared.state.Break.{Break}
 use Rattle.bench.specs.Benches.{total_before, total_after, crossings_of}
@@ -49,21 +46,18 @@ ToldJudgement K S room cells name h letters charges =
     VerdictLine K S Judge name (judge_notation S.named h) (total_before b) (total_after b) (VerdictRight b) (preset_found K h letters charges room cells)
 
 -- the line of a preset of one kind: some charges that are sent as its entries are judged
-pub record JudgeLine {C : Type 0} (K : Kind C) (S : Sending C) (name : List ℕ) (h : Header) (letters : List ℕ) (entries : List Entry) (l : ReportLine) : Type 0 where
+pub record JudgeLine {C : Type 0} (K : Kind C) (S : Sending C) (name : List ℕ) (p : Preset) (l : ReportLine) : Type 0 where
   pub charges : List C
-  pub sent : map S.entry charges ≡ entries
-  pub verdict : ToldJudgement K S most_words most_shown name h letters charges l
+  pub sent : map S.entry charges ≡ p.entries
+  pub verdict : ToldJudgement K S most_words most_shown name p.head.header p.letters charges l
 
 -- of any kind
-abbrev pub JudgedAs : ChargeKind → List ℕ → Header → List ℕ → List Entry → ReportLine → Type 0
-JudgedAs Voices = JudgeLine voices voices_sending
-JudgedAs Pitch = JudgeLine pitch pitch_sending
-JudgedAs Channels = JudgeLine channels channels_sending
-JudgedAs Both = JudgeLine both both_sending
+abbrev pub JudgedAs : ChargeKind → List ℕ → Preset → ReportLine → Type 0
+JudgedAs kind = JudgeLine (delivered kind).meaning (delivered kind).sending
 
 -- the line of some bytes under a name, by what reading them as a preset answers
 abbrev pub JudgeTells : List ℕ → Result Preset Refusal → ReportLine → Type 0
-JudgeTells name (Ok p) = JudgedAs p.head.kind name p.head.header p.letters p.entries
+JudgeTells name (Ok p) = JudgedAs p.head.kind name p
 JudgeTells name (Err f) = LineIs (refused_text name f) false
 
 -- the line of two densities with their charges, compared on strips of some lengths
@@ -76,20 +70,17 @@ ToldComparison K S room cells subject h charges h' others =
     (pair_found K h charges h' others room cells)
 
 -- the line of the densities of two presets of one kind
-pub record CompareLine {C : Type 0} (K : Kind C) (S : Sending C) (subject : List ℕ) (h : Header) (entries : List Entry) (h' : Header) (entries' : List Entry) (l : ReportLine) : Type 0 where
+pub record CompareLine {C : Type 0} (K : Kind C) (S : Sending C) (subject : List ℕ) (p p' : Preset) (l : ReportLine) : Type 0 where
   pub charges : List C
   pub others : List C
-  pub sent : map S.entry charges ≡ entries
-  pub others_sent : map S.entry others ≡ entries'
-  pub verdict : ToldComparison K S most_words most_shown subject h charges h' others l
+  pub sent : map S.entry charges ≡ p.entries
+  pub others_sent : map S.entry others ≡ p'.entries
+  pub verdict : ToldComparison K S most_words most_shown subject p.head.header charges p'.head.header others l
 
 -- of two presets whose kinds are the same or not
-abbrev pub ComparedAs : Bool → ChargeKind → List ℕ → Header → List Entry → Header → List Entry → ReportLine → Type 0
-ComparedAs true Voices = CompareLine voices voices_sending
-ComparedAs true Pitch = CompareLine pitch pitch_sending
-ComparedAs true Channels = CompareLine channels channels_sending
-ComparedAs true Both = CompareLine both both_sending
-ComparedAs false kind = λ subject h entries h' entries'. LineIs (kinds_text subject) false
+abbrev pub ComparedAs : Bool → ChargeKind → List ℕ → Preset → Preset → ReportLine → Type 0
+ComparedAs true kind = CompareLine (delivered kind).meaning (delivered kind).sending
+ComparedAs false kind = λ subject p p'. LineIs (kinds_text subject) false
 
 -- whether two kinds are the same
 abbrev pub same_kind : ChargeKind → ChargeKind → Bool
@@ -97,7 +88,7 @@ same_kind kind kind' = number_of kind == number_of kind'
 
 -- the line of two names and their bytes, by what reading them as presets answers
 abbrev pub CompareTells : List ℕ → List ℕ → Result Preset Refusal → Result Preset Refusal → ReportLine → Type 0
-CompareTells name other (Ok p) (Ok p') = ComparedAs (same_kind p.head.kind p'.head.kind) p.head.kind (two_names name other) p.head.header p.entries p'.head.header p'.entries
+CompareTells name other (Ok p) (Ok p') = ComparedAs (same_kind p.head.kind p'.head.kind) p.head.kind (two_names name other) p p'
 CompareTells name other (Ok p) (Err f) = LineIs (refused_text other f) false
 CompareTells name other (Err f) r = LineIs (refused_text name f) false
 
@@ -121,19 +112,16 @@ pub record ToldCrossings {C : Type 0} (K : Kind C) (S : Sending C) (room cells :
   pub page : PageIs S (crossing_notation S.named h) crossed answer r
 
 -- the page of a preset of one kind: some charges that are sent as its entries are judged
-pub record CrossingsPage {C : Type 0} (K : Kind C) (S : Sending C) (h : Header) (letters : List ℕ) (entries : List Entry) (r : Result ReportLine Fault) : Type 0 where
+pub record CrossingsPage {C : Type 0} (K : Kind C) (S : Sending C) (p : Preset) (r : Result ReportLine Fault) : Type 0 where
   pub charges : List C
-  pub sent : map S.entry charges ≡ entries
-  pub told : ToldCrossings K S most_words most_shown h letters charges r
+  pub sent : map S.entry charges ≡ p.entries
+  pub told : ToldCrossings K S most_words most_shown p.head.header p.letters charges r
 
 -- of any kind
-abbrev pub CrossedAs : ChargeKind → Header → List ℕ → List Entry → Result ReportLine Fault → Type 0
-CrossedAs Voices = CrossingsPage voices voices_sending
-CrossedAs Pitch = CrossingsPage pitch pitch_sending
-CrossedAs Channels = CrossingsPage channels channels_sending
-CrossedAs Both = CrossingsPage both both_sending
+abbrev pub CrossedAs : ChargeKind → Preset → Result ReportLine Fault → Type 0
+CrossedAs kind = CrossingsPage (delivered kind).meaning (delivered kind).sending
 
 -- the page of some bytes, by what reading them as a preset answers
 abbrev pub CrossingsTell : Result Preset Refusal → Result ReportLine Fault → Type 0
-CrossingsTell (Ok p) = CrossedAs p.head.kind p.head.header p.letters p.entries
+CrossingsTell (Ok p) = CrossedAs p.head.kind p
 CrossingsTell (Err f) = λ r. plainly r ≡ Err f

@@ -7,12 +7,11 @@ ghost use Rattle.report.specs.Reports.{CompareLine, ComparedAs, CompareTells, co
 
 use crate::charges::charges_of;
 use crate::compare::compare_tables;
-use crate::report_line::{ReportLine, Question, LineNotation};
+use crate::report_line::{LineNotation, Question, ReportLine};
 use crate::texts::{Asked, kinds_line, refused_line};
 use crate::verdict::CROSSING_ROOM;
-use charge::{Both, Channels, ChargeKind, Pitch, Voices};
 use criterion::MOST_SHOWN;
-use preset::{Loaded, Sent, PresetStrips};
+use preset::{Loaded, PresetStrips, Sent, by_kind};
 use preset_bench::sent_found;
 use std::alloc::{AllocError, Global};
 
@@ -37,10 +36,8 @@ fn compare_charges<C: Sent>(
 ) -> Result<ReportLine, AllocError>
     requires first { first.kind ≡ C.sending.named }
     requires second { second.kind ≡ C.sending.named }
-    ensures { let p = first.entry in
-        let other = second.entry in
-        IfOk result (CompareLine C.kind C.sending subject.now
-        p.header p.entries.now other.header other.entries.now) }
+    ensures { IfOk result
+        (CompareLine C.kind C.sending subject.now (preset_of first.entry) (preset_of second.entry)) }
 {
     let charges = charges_of::<C>(alloc, first.entries)?;
     let others = charges_of::<C>(alloc, second.entries)?;
@@ -62,7 +59,8 @@ fn compare_charges<C: Sent>(
     asked.line(alloc, &ring, sent_found(found))
 }
 
-// The line of two presets of the first one's kind, by cases as for one preset.
+// The line of two presets of the first one's kind.
+#[tactic(auto, using(crate::proofs::OfKind::compared_as))]
 fn compare_kind(
     alloc: Global,
     subject: &str,
@@ -70,17 +68,13 @@ fn compare_kind(
     second: Loaded<'_>,
 ) -> Result<ReportLine, AllocError>
     requires { second.kind ≡ first.kind }
-    ensures { let p = first.entry in
-        let other = second.entry in
-        IfOk result (ComparedAs true p.kind subject.now
-        p.header p.entries.now other.header other.entries.now) }
+    ensures { IfOk result
+        (ComparedAs true first.entry.kind subject.now (preset_of first.entry) (preset_of second.entry)) }
 {
-    match first.kind {
-        ChargeKind::Voices => compare_charges::<Voices>(alloc, subject, first, second),
-        ChargeKind::Pitch => compare_charges::<Pitch>(alloc, subject, first, second),
-        ChargeKind::Channels => compare_charges::<Channels>(alloc, subject, first, second),
-        ChargeKind::Both => compare_charges::<Both>(alloc, subject, first, second),
-    }
+    by_kind!(
+        first.kind,
+        compare_charges::<_>(alloc, subject, first, second)
+    )
 }
 
 // The line of two presets of any kinds.
@@ -90,10 +84,9 @@ fn compare_loaded(
     first: Loaded<'_>,
     second: Loaded<'_>,
 ) -> Result<ReportLine, AllocError>
-    ensures { let p = first.entry in
-        let other = second.entry in
-        IfOk result (ComparedAs (same_kind p.kind other.kind) p.kind subject.now
-        p.header p.entries.now other.header other.entries.now) }
+    ensures { let p = preset_of first.entry in
+        let other = preset_of second.entry in
+        IfOk result (ComparedAs (same_kind p.head.kind other.head.kind) p.head.kind subject.now p other) }
 {
     if first.kind != second.kind {
         return kinds_line(alloc, subject);

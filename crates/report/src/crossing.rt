@@ -1,5 +1,6 @@
 // The crossings of a preset, as a page.
 ghost use Rattle.std.specs.Prelude.{◌≡◌, ◌^◌, ◌≤◌, length, take, Some, IfOk, IfErr, IfSome};
+ghost use Rattle.preset.specs.Loads.{preset_of};
 ghost use Rattle.preset.specs.Presets.{whole_preset};
 ghost use Rattle.console.specs.Shows.{unless_memory, refusal_told};
 ghost use Rattle.report.specs.ReportLines.{LineIs};
@@ -8,14 +9,13 @@ ghost use Rattle.report.specs.Texts.{row_text, rows_text, notation_of};
 ghost use Rattle.report.specs.Reports.{CrossingsPage, CrossedAs, CrossingsTell, crossing_notation};
 
 use crate::charges::charges_of;
-use crate::report_line::{ReportLine, LineNotation};
+use crate::report_line::{LineNotation, ReportLine};
 use crate::rows::rows_text;
 use crate::verdict::{CROSSING_ROOM, judge_notation};
 use bench::Break;
-use charge::{Both, Channels, ChargeKind, Pitch, Voices};
 use console::ShowError;
 use criterion::MOST_SHOWN;
-use preset::{Loaded, Sent, PresetStrips};
+use preset::{Loaded, PresetStrips, Sent, by_kind};
 use preset_bench::judge;
 use std::alloc::{AllocError, Global};
 
@@ -52,9 +52,8 @@ fn page_line<C: Sent>(
 // The page of a preset of one kind.
 fn cross_charges<C: Sent>(alloc: Global, preset: Loaded<'_>) -> Result<ReportLine, ShowError>
     requires { preset.kind ≡ C.sending.named }
-    ensures { let p = preset.entry in
-        IfSome (unless_memory result)
-        (CrossingsPage C.kind C.sending p.header p.letters.now p.entries.now) }
+    ensures { IfSome (unless_memory result)
+        (CrossingsPage C.kind C.sending (preset_of preset.entry)) }
 {
     let charges = charges_of::<C>(alloc, preset.entries)?;
     let mut strip = vec![in alloc; C::zero(); CROSSING_ROOM]?;
@@ -64,17 +63,12 @@ fn cross_charges<C: Sent>(alloc: Global, preset: Loaded<'_>) -> Result<ReportLin
     Ok(page_line(alloc, crossing_notation(preset), crossings, found)?)
 }
 
-// The page of a preset of any kind, by cases as for its verdict.
+// The page of a preset of any kind.
+#[tactic(auto, using(crate::proofs::OfKind::crossed_as))]
 fn cross_kind(alloc: Global, preset: Loaded<'_>) -> Result<ReportLine, ShowError>
-    ensures { let p = preset.entry in
-        IfSome (unless_memory result) (CrossedAs p.kind p.header p.letters.now p.entries.now) }
+    ensures { IfSome (unless_memory result) (CrossedAs preset.entry.kind (preset_of preset.entry)) }
 {
-    match preset.kind {
-        ChargeKind::Voices => cross_charges::<Voices>(alloc, preset),
-        ChargeKind::Pitch => cross_charges::<Pitch>(alloc, preset),
-        ChargeKind::Channels => cross_charges::<Channels>(alloc, preset),
-        ChargeKind::Both => cross_charges::<Both>(alloc, preset),
-    }
+    by_kind!(preset.kind, cross_charges::<_>(alloc, preset))
 }
 
 // What crosses at each word, a line each, of the preset that the bytes are.

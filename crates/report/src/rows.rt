@@ -7,7 +7,12 @@ use preset::{Entry, Sent};
 use std::alloc::{AllocError, Global};
 
 // Adds the row of a word by its code and what crosses there.
-fn push_row(text: &mut String, notation: LineNotation, code: usize, entry: Entry) -> Result<(), AllocError>
+fn push_row(
+    text: &mut String,
+    notation: LineNotation,
+    code: usize,
+    entry: Entry,
+) -> Result<(), AllocError>
     ensures { OnOk result (string_bytes text.new
         ≡ string_bytes text.old ++ row_text (notation_of notation) code entry) }
 {

@@ -4,7 +4,7 @@ ghost use Rattle.fault.specs.Refusals.{refusal};
 ghost use Rattle.report.specs.Texts.{kinds_text, good_word, bad_word, refused_text, kept_text, finding_text, notation_of, verdict_text, verdict_good, ring_fits};
 ghost use Rattle.report.specs.ReportLines.{LineIs};
 
-use crate::report_line::{ReportLine, Question, LineNotation};
+use crate::report_line::{LineNotation, Question, ReportLine};
 use automaton::ShownLetters;
 use bench::Break;
 use fault::Fault;
@@ -96,7 +96,11 @@ impl Asked<'_> {
 }
 
 // The line of a call that was refused.
-pub(crate) fn refused_line(alloc: Global, subject: &str, fault: Fault) -> Result<ReportLine, AllocError>
+pub(crate) fn refused_line(
+    alloc: Global,
+    subject: &str,
+    fault: Fault,
+) -> Result<ReportLine, AllocError>
     ensures { IfOk result (LineIs (refused_text subject.now (refusal fault)) false) }
 {
     let code = fault.stop.code();

@@ -1,15 +1,15 @@
 // A preset that was read, judged and told.
 ghost use Rattle.std.specs.Prelude.{◌≡◌, IfOk};
+ghost use Rattle.preset.specs.Loads.{preset_of};
 ghost use Rattle.report.specs.Texts.{notation_of};
 ghost use Rattle.report.specs.Reports.{JudgeLine, JudgedAs, judge_notation};
 
 use crate::charges::charges_of;
-use crate::report_line::{ReportLine, Question, LineNotation};
+use crate::report_line::{LineNotation, Question, ReportLine};
 use crate::texts::Asked;
-use charge::{Both, Channels, ChargeKind, Pitch, Voices};
 use criterion::MOST_SHOWN;
 use fault::limits::MOST_WORDS;
-use preset::{Loaded, Sent};
+use preset::{Loaded, Sent, by_kind};
 use preset_bench::{judge, sent_found};
 use std::alloc::{AllocError, Global};
 
@@ -29,10 +29,13 @@ pub(crate) fn judge_notation(preset: Loaded<'_>) -> LineNotation
 }
 
 // The line of a preset of one kind.
-fn judge_charges<C: Sent>(alloc: Global, name: &str, preset: Loaded<'_>) -> Result<ReportLine, AllocError>
+fn judge_charges<C: Sent>(
+    alloc: Global,
+    name: &str,
+    preset: Loaded<'_>,
+) -> Result<ReportLine, AllocError>
     requires { preset.kind ≡ C.sending.named }
-    ensures { let p = preset.entry in
-        IfOk result (JudgeLine C.kind C.sending name.now p.header p.letters.now p.entries.now) }
+    ensures { IfOk result (JudgeLine C.kind C.sending name.now (preset_of preset.entry)) }
 {
     let charges = charges_of::<C>(alloc, preset.entries)?;
     let mut crossings = vec![in alloc; C::zero(); CROSSING_ROOM]?;
@@ -46,16 +49,14 @@ fn judge_charges<C: Sent>(alloc: Global, name: &str, preset: Loaded<'_>) -> Resu
     asked.line(alloc, &ring, sent_found(found))
 }
 
-// The line of a preset of any kind. What is done for each kind is a generic function, which no closure or `dyn` can
-// stand for.
-pub(crate) fn judge_kind(alloc: Global, name: &str, preset: Loaded<'_>) -> Result<ReportLine, AllocError>
-    ensures { let p = preset.entry in
-        IfOk result (JudgedAs p.kind name.now p.header p.letters.now p.entries.now) }
+// The line of a preset of any kind.
+#[tactic(auto, using(crate::proofs::OfKind::judged_as))]
+pub(crate) fn judge_kind(
+    alloc: Global,
+    name: &str,
+    preset: Loaded<'_>,
+) -> Result<ReportLine, AllocError>
+    ensures { IfOk result (JudgedAs preset.entry.kind name.now (preset_of preset.entry)) }
 {
-    match preset.kind {
-        ChargeKind::Voices => judge_charges::<Voices>(alloc, name, preset),
-        ChargeKind::Pitch => judge_charges::<Pitch>(alloc, name, preset),
-        ChargeKind::Channels => judge_charges::<Channels>(alloc, name, preset),
-        ChargeKind::Both => judge_charges::<Both>(alloc, name, preset),
-    }
+    by_kind!(preset.kind, judge_charges::<_>(alloc, name, preset))
 }

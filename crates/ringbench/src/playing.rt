@@ -6,12 +6,11 @@ use crate::session;
 use crate::ring_strips::RingStrips;
 use crate::trouble::Trouble;
 use bench::Verdict;
-use charge::{Both, Channels, ChargeKind, Pitch, Voices};
 use cli::{BreaksText, Command, RingDigits, Outcome, read_script};
 use criterion::MOST_SHOWN;
 use fault::limits::MOST_WORDS;
 use player::Player;
-use preset::{Loaded, Sent, PresetStrips};
+use preset::{Loaded, PresetStrips, Sent, by_kind};
 use preset_bench::{draft, fill_charges};
 
 // What is done on a bench that holds.
@@ -60,12 +59,7 @@ fn play_kind<'a>(
     preset: Loaded<'_>,
     what: Playable<'_>,
 ) -> Result<Outcome, Trouble<'a>> {
-    match preset.kind {
-        ChargeKind::Voices => play_charges::<Voices>(rt, path, preset, what),
-        ChargeKind::Pitch => play_charges::<Pitch>(rt, path, preset, what),
-        ChargeKind::Channels => play_charges::<Channels>(rt, path, preset, what),
-        ChargeKind::Both => play_charges::<Both>(rt, path, preset, what),
-    }
+    by_kind!(preset.kind, play_charges::<_>(rt, path, preset, what))
 }
 
 // Plays the script on standard input on a preset that was read.

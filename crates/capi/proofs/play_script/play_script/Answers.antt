@@ -5,7 +5,7 @@ use Rattle.player.specs.Answers.{answer_meant, open_cells}
 use Rattle.player.specs.Promises.{all_strips, meant}
 use Rattle.player.proofs.Books.{past-set}
 use Rattle.capi.specs.Answers.{script_answer}
-use Rattle.capi.specs.Scripts.{asks, script_call, session, Obeys}
+use Rattle.capi.specs.Scripts.{asks, script_call, session, handed, Obeys}
 use Rattle.capi.proofs.Sessions.{session_step, given_more, given_front}
 use Rattle.capi.proofs.play_script.play_script.Goals as goal
 
@@ -19,17 +19,17 @@ loop-i-preserved g c =
     let i = c.loop-i.i in
     let r = g.R.Rule.meaning a.bench.parts.rule in
     let d = g.D.Density.weights K a.bench.parts.density in
-    let first = meant K (all_strips a.cells.now a.spare.now a.opening.now a.crossed.now a.touched.now) in
+    let first = handed K a.cells.now a.opening.now a.crossed.now a.touched.now in
     let inv = c.loop-i.invariant in
     let told = c.answer_one-next.ensures in
-    let within : i < length a.script.now = omega arith in
+    let within : i < length a.script.calls.now = omega arith in
     let room : i < length c.loop-i.answers = omega (arith, c.loop-i.auto.answers, c.requires) in
     let said = option_map (answer_meant K) c.answer_one-next.result.1 in
     let was = meant K (all_strips c.loop-i.cells c.loop-i.spare c.loop-i.opening c.loop-i.crossed c.loop-i.touched) in
     let new = c.answer_one-next.new in
     let left = meant K (all_strips new.cells new.spare new.opening new.crossed new.touched) in
     let obeys = subst (λ b. Obeys K (g.R.Rule.meaning b.parts.rule) (g.D.Density.weights K b.parts.density) (open_cells (λ p. p.len) c.loop-i.player) was (asks c.asked-asked.result) said left (open_cells (λ p. p.len) c.answer_one-next.result.0)) inv.0 told.obeys in
-    let step = session_step K r d first (script_call a.rings.now) a.script.now i _ within (open_cells (λ p. p.len) c.loop-i.player) was left (asks c.asked-asked.result) said (open_cells (λ p. p.len) c.answer_one-next.result.0) inv.1 inv.2 c.asked-asked.ensures obeys in (
+    let step = session_step K r d first (script_call a.script.rings.now) a.script.calls.now i _ within (open_cells (λ p. p.len) c.loop-i.player) was left (asks c.asked-asked.result) said (open_cells (λ p. p.len) c.answer_one-next.result.0) inv.1 inv.2 c.asked-asked.ensures obeys in (
       told.bench ∙ inv.0,
       step.2,
       step.1,
@@ -43,10 +43,10 @@ returns g c =
     let a = c.args in
     let r = g.R.Rule.meaning a.bench.parts.rule in
     let d = g.D.Density.weights K a.bench.parts.density in
-    let first = meant K (all_strips a.cells.now a.spare.now a.opening.now a.crossed.now a.touched.now) in
+    let first = handed K a.cells.now a.opening.now a.crossed.now a.touched.now in
     let inv = c.loop-i.invariant in
-    let all = take_all c.loop-i.i a.script.now (omega arith) in
-    let whole = ap (λ xs. session K r d first (map (script_call a.rings.now) xs)) all in
+    let all = take_all c.loop-i.i a.script.calls.now (omega arith) in
+    let whole = ap (λ xs. session K r d first (map (script_call a.script.rings.now) xs)) all in
     record {
       given = inv.3.given;
       said = inv.3.said_is ∙ ap (λ p. p.said) whole;

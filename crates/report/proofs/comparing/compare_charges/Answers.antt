@@ -2,6 +2,7 @@ use Rattle.std.proofs.Common.{map, length, refl, ap, ◌∙◌}
 use Rattle.std.proofs.lemmas.Result.{IfOk-weaker}
 use Rattle.charge.specs.declared.kind.ChargeKind.{ChargeKind}
 use Rattle.report.specs.declared.report_line.Question.TheVariants.{Compare}
+use Rattle.preset.specs.Loads.{preset_of}
 use Rattle.report.specs.Texts.{notation_of}
 use Rattle.report.specs.Reports.{compare_notation}
 use Rattle.report.proofs.Lined.{compare-line}
@@ -22,5 +23,5 @@ returns g c =
     let room = c.deref_mut.ensures.len ∙ c.in_ok-crossings.ensures.len in
     let same = c.compare_notation.ensures ∙ ap (λ (k : ChargeKind). compare_notation k p.header q.header) c.requires.first in
     IfOk-weaker c.line.result _ _ (λ l is.
-    compare-line K S c.args.subject.now p.header p.entries.now q.header q.entries.now c.deref.result.now c.deref-2.result.now (length c.deref_mut.result.now) _ room refl sent others_sent l
+    compare-line K S c.args.subject.now (preset_of p) (preset_of q) c.deref.result.now c.deref-2.result.now (length c.deref_mut.result.now) _ room refl sent others_sent l
     (told K S _ _ _ _ _ _ _ _ _ _ c.compare_tables-found.ensures c.sent_found.result c.sent_found.ensures Compare c.args.subject.now (notation_of c.compare_notation.result) (compare_notation S.named p.header q.header) same l is)) c.line.ensures

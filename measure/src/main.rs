@@ -1,6 +1,6 @@
 //! Proved code, called through the C library, beside hand-written Rust of the same functions, in one process: first the
 //! results of both on many random inputs, then times. With a work's name and a side it does that work alone, so that its
-//! instructions can be counted: bench WORK SIDE ROUNDS, where SIDE is proved, rust or plain.
+//! instructions can be counted: measure WORK SIDE ROUNDS, where SIDE is proved, rust or plain.
 
 mod charges;
 mod judging;
