@@ -35,36 +35,46 @@ const ANSWER_READING: u32 = 2;
 
 const ANSWER_REFUSED: u32 = 3;
 
-// The header of a preset that was read, or a refusal.
+/// The header of a preset that was read, or a refusal.
 #[derive(Clone, Copy)]
 #[repr(C)]
 pub struct ReadAnswer {
+    /// The stop code of a refusal, 1 to 15, or 0.
     pub code: u32,
+    /// The place of a refusal, an index of a byte.
     pub place: usize,
     pub header: Header,
 }
 
-// A verdict, or a refusal. A break has the failing word's code, the length of the ring that shows it, and that ring's
-// totals before and after one step.
+/// A verdict, or a refusal.
 #[derive(Clone, Copy)]
 #[repr(C)]
 pub struct JudgeAnswer {
+    /// The stop code of a refusal, 1 to 15, or 0.
     pub code: u32,
+    /// Whether some ring changes its total in a step. What follows the place is of that break.
     pub breaks: bool,
+    /// The place of a refusal.
     pub place: usize,
+    /// The code of the failing word.
     pub word: usize,
+    /// How many cells the ring has that shows it.
     pub len: usize,
+    /// That ring's total, and its total after one step.
     pub before: Entry,
     pub after: Entry,
 }
 
-// The answer to a call of a script: none, done, a reading of a site, or a refusal.
+/// The answer to a call of a script.
 #[derive(Clone, Copy)]
 #[repr(C)]
 pub struct ScriptAnswer {
+    /// 0 none, 1 done, 2 a reading of a site, 3 a refusal.
     pub answer: u32,
+    /// The stop code of a refusal, and its place.
     pub code: u32,
     pub place: usize,
+    /// The site's charges of a reading: at opening, crossed into it, touched, and now.
     pub opening: Entry,
     pub crossed: Entry,
     pub touched: Entry,

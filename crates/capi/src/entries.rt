@@ -5,7 +5,8 @@ ghost use Rattle.fault.specs.Limits.{most_words};
 use preset::{Loaded, Sent};
 use preset_bench::fill_charges;
 
-// Writes the charges that are sent as the entries of a preset to the front of a strip, which is as long as any preset asks.
+// Writes the charges that are sent as the entries of a preset to the front of a strip, which is as long as any preset
+// asks.
 pub(crate) fn fill_entries<C: Sent>(preset: Loaded<'_>, strip: &mut [C])
     requires kind { preset.kind ≡ C.sending.named }
     requires room { length strip.old ≡ most_words }

@@ -37,7 +37,8 @@ fn write_entries<C: Sent>(charges: &[C], strip: &mut [Entry])
     }
 }
 
-// Judges a preset, given a strip of charges for its entries and one for its crossings, each for as many as any preset has.
+// Judges a preset, given a strip of charges for its entries and one for its crossings, each for as many as any preset
+// has.
 pub(crate) fn judge_charges<C: Sent>(
     preset: Loaded<'_>,
     charges: &mut [C],

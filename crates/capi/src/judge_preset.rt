@@ -1,5 +1,5 @@
-// Judging a preset. Each kind has a function of its own, which makes the arrays of its charges: those of all kinds in one
-// would take the stack of all.
+// Judging a preset. Each kind has a function of its own, which makes the arrays of its charges: those of all kinds in
+// one would take the stack of all.
 ghost use Rattle.std.specs.Prelude.{◌≡◌};
 ghost use Rattle.charge.specs.declared.kind.ChargeKind.TheVariants as kind;
 ghost use Rattle.preset.specs.Loads.{preset_of};
@@ -85,8 +85,9 @@ fn judge_kind(preset: Loaded<'_>, crossings: &mut [Entry], ring: &mut [u8]) -> J
     }
 }
 
-// Judges the preset that the bytes are. In either verdict the crossings stand at the front of a strip afterwards, and on a
-// break the ring that shows it at the front of another. Strips too short are refused. A refusal writes nothing.
+/// Judges the preset that the bytes are. In either verdict the q^(n+k-2) crossings stand at the front of a strip
+/// afterwards, and on a break the ring that shows it at the front of another. Refused as `ringbench_read` by the bytes;
+/// then by 12 at place 0 where the crossings or the ring, of up to 2(n + k) - 3 cells, have no room.
 #[unsafe(no_mangle)]
 pub extern "C" fn ringbench_judge(
     bytes: &[u8],

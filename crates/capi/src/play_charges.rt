@@ -77,8 +77,8 @@ fn play_tables<C: Sent>(
     )
 }
 
-// The same for the entries of a preset, given a strip of charges for them. The strips have room for any preset's entries
-// and crossings.
+// The same for the entries of a preset, given a strip of charges for them. The strips have room for any preset's
+// entries and crossings.
 pub(crate) fn play_charges<C: Sent>(
     preset: Loaded<'_>,
     script: Script<'_>,

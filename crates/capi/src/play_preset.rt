@@ -127,9 +127,10 @@ fn play_kind(
     }
 }
 
-// Judges the preset that the bytes are, and where it holds answers each call of a script, in the order of the script, at
-// the call's place in the strip of answers. Rings are opened in the cells. A strip with no room for the answers is refused.
-// A refusal and a break write nothing.
+/// Judges the preset that the bytes are, and where it holds answers each call of a script, in the order of the script,
+/// at the call's place in the strip of answers. Rings are opened in the cells, with letters of `rings`. Refused as
+/// `ringbench_read` by the bytes; then by 12 at place 0 where there are fewer answers than calls. A break writes
+/// nothing either.
 #[unsafe(no_mangle)]
 pub extern "C" fn ringbench_play(
     bytes: &[u8],

@@ -7,8 +7,9 @@ ghost use Rattle.capi.specs.Answers.{read_answer};
 use crate::answers::{ReadAnswer, read_answer};
 use preset::{Entry, read_whole};
 
-// Reads the preset that the bytes are to the front of two strips, which need room for the largest preset. A refusal
-// writes nothing.
+/// Reads the preset that the bytes are: q^n letters to the front of one strip and q^k entries to the front of the
+/// other. Refused as `preset::read_whole`: by 12 at place 0 where a strip is shorter than 4,096, and by the first
+/// number at fault.
 #[unsafe(no_mangle)]
 pub extern "C" fn ringbench_read(
     bytes: &[u8],

@@ -17,14 +17,17 @@ const READ: u32 = 4;
 
 const CLOSE: u32 = 5;
 
-// A call: its number, and what it is given. Open takes `len` letters from index `at` of the letters of all rings on, touch
-// the site `at` and a letter, and read the site `at`.
+/// A call of a script: its number, and what it is given.
 #[derive(Clone, Copy)]
 #[repr(C)]
 pub struct ScriptCall {
+    /// 1 open, 2 touch, 3 step, 4 read, 5 close; another number asks nothing.
     pub call: u32,
+    /// The letter that a touch puts into its cell.
     pub letter: u8,
+    /// The site of a touch or a read; for open, where its ring begins in the letters of all rings.
     pub at: usize,
+    /// How many letters the ring of an open has.
     pub len: usize,
 }
 
@@ -35,8 +38,8 @@ pub(crate) struct Script<'a> {
     pub rings: &'a [u8],
 }
 
-// A ring from the letters of all rings. Its length is tested here too, before their end, so that the lowest code that fits
-// is answered.
+// A ring from the letters of all rings. Its length is tested here too, before their end, so that the lowest code that
+// fits is answered.
 fn ring_at(letters: &[u8], at: usize, len: usize) -> Result<&[u8], Fault>
     ensures { lent_items result ≡ ring_at letters.now at len }
 {

@@ -5,7 +5,7 @@ use crate::kind::Tried;
 use crate::numbers::Numbers;
 use crate::rule::RuleLine;
 use crate::show::{MARK, write_end, write_fault};
-use crate::strips::{Rooms, JudgeStrips};
+use crate::strips::{JudgeStrips, Rooms};
 use automaton::{Density, Rule, ShownLetters, next_ring, total};
 use bench::{Draft, compare};
 use charge::{ChargeKind, Voices};

@@ -6,17 +6,19 @@ ghost use Rattle.preset.specs.Inputs.{Reads};
 ghost use Rattle.preset.specs.Items.{entry_format};
 
 use crate::input::Unread;
+use crate::item_limits::ItemLimits;
 use crate::items::{Encode, PresetItem};
 use crate::number::{put_number, spelt_len};
-use crate::item_limits::ItemLimits;
 use charge::{CHANNEL_SETS, ChargeKind, LEAST_VOICES, MOST_VOICES, PITCH_CLASSES};
 use fault::{Fault, Stop};
 
-// A charge of any kind. A part that the kind lacks is 0. C has the same struct.
+/// A charge of any kind, as it stands in a preset. A part that the kind lacks is 0. C has the same struct.
 #[derive(Clone, Copy, PartialEq, Eq, Debug)]
 #[repr(C)]
 pub struct Entry {
+    /// The voices, -2^31 to 2^31 - 1 in an entry that is allowed: of the kinds voices and both.
     pub signed: i64,
+    /// The pitch class, below 12, of the kinds pitch and both; the set of channels, below 2^16, of channels.
     pub plain: u64,
 }
 

@@ -10,27 +10,34 @@ use charge::ChargeKind;
 use fault::limits::{LEAST_LETTERS, MOST_LETTERS, MOST_WIDTH, MOST_WINDOW, word_count};
 use fault::{Fault, Stop};
 
-// The number of the kind of charge, the alphabet size q, the rule's window n and reach l, and the density's
-// width k. The numbers are wide enough to be wrong: whoever takes a header checks it. C has the same struct.
+/// The five numbers that a preset begins with. They are wide enough to be wrong: whoever takes a header checks it. C
+/// has the same struct.
 #[derive(Clone, Copy, PartialEq, Eq, Debug)]
 #[repr(C)]
 pub struct Header {
+    /// The number of the kind of charge: 0 voices, 1 pitch, 2 channels, 3 both.
     pub kind: u64,
+    /// The alphabet size, 2 to 8 letters.
     pub q: u64,
+    /// The rule's window, 1 to 12 cells.
     pub n: u64,
+    /// The rule's reach: the place of the cell itself in its window, from 0 to n - 1.
     pub l: u64,
+    /// The density's width, 1 to 12 cells.
     pub k: u64,
 }
 
 impl Header {
-    // How many letters the rule has, where the alphabet size and the window are in range and the words are few.
+    /// How many letters the rule has: q^n, or `None` where the alphabet size or the window is out of range or these are
+    /// more than 4,096.
     pub fn letter_count(self) -> Option<usize>
         ensures { result ≡ item_count most_window self.q self.n }
     {
         item_count(MOST_WINDOW, self.q, self.n)
     }
 
-    // How many entries the density has, where the alphabet size and the width are in range and the words are few.
+    /// How many entries the density has: q^k, or `None` where the alphabet size or the width is out of range or these
+    /// are more than 4,096.
     pub fn entry_count(self) -> Option<usize>
         ensures { result ≡ item_count most_width self.q self.k }
     {

@@ -45,7 +45,11 @@ pub(crate) trait Encode: Copy {
 }
 
 // Passes over `count` items.
-pub(crate) fn skip<T: PresetItem>(limits: ItemLimits, input: &mut Unread<'_>, count: usize) -> Result<(), Fault>
+pub(crate) fn skip<T: PresetItem>(
+    limits: ItemLimits,
+    input: &mut Unread<'_>,
+    count: usize,
+) -> Result<(), Fault>
     ensures { Reads input.old input.new result
         (λ whole bs. skipped (many (T.PresetItem.format.reads limits whole) count bs)) }
 {
@@ -67,7 +71,12 @@ fn read_there<T: PresetItem>(limits: ItemLimits, input: &mut Unread<'_>) -> T
 }
 
 // Reads `count` items, which are there, into the front of the strip.
-pub(crate) fn fill<T: PresetItem>(limits: ItemLimits, mut input: Unread<'_>, strip: &mut [T], count: usize)
+pub(crate) fn fill<T: PresetItem>(
+    limits: ItemLimits,
+    mut input: Unread<'_>,
+    strip: &mut [T],
+    count: usize,
+)
     requires room { count ≤ length strip.old }
     requires there { let reads = T.PresetItem.format.reads limits input.whole in
         is_ok (many reads count input.bytes.now) ≡ true }

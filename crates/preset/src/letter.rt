@@ -3,9 +3,9 @@ ghost use Rattle.preset.specs.Items.{letter_format};
 ghost use Rattle.preset.specs.Numbers.{spell};
 
 use crate::input::Unread;
+use crate::item_limits::ItemLimits;
 use crate::items::{Encode, PresetItem};
 use crate::number::{put_number, spelt_len};
-use crate::item_limits::ItemLimits;
 use fault::{Fault, Stop};
 
 impl PresetItem for u8 {

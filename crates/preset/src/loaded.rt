@@ -7,12 +7,16 @@ use crate::header::{Head, Header};
 use crate::item_limits::ItemLimits;
 use charge::ChargeKind;
 
-// The kind and the sizes, with the letters and the entries that they ask for, each of which is allowed.
+/// A preset on the strips that hold its letters and its entries. Its sizes are in range, it has as many letters and
+/// entries as they ask, and each is allowed.
 #[derive(Clone, Copy)]
 pub struct Loaded<'a> {
+    /// The kind of charge that the header names.
     pub kind: ChargeKind,
     pub header: Header,
+    /// The rule's answers, by the codes of their words: q^n letters below q.
     pub letters: &'a [u8],
+    /// The density's charges, by the codes of their words: q^k entries that the kind allows.
     pub entries: &'a [Entry],
     pub ghost sound: { Sound (record {
       head = record { kind = kind; header = header };

@@ -4,11 +4,11 @@ ghost use Rattle.fault.specs.Answers.{at_front};
 ghost use Rattle.preset.specs.Answers.{parse_seen};
 ghost use Rattle.preset.specs.Numbers.{number_read, spell, high_bytes, NumberRefusals, NumberSpellsBack};
 
-use crate::items::Encode;
 use crate::item_limits::ItemLimits;
+use crate::items::Encode;
 use fault::{Fault, Stop};
 
-// The largest number.
+/// The largest number that bytes spell, 2^32 - 1.
 pub const MOST_NUMBER: u64 = 0xffff_ffff;
 
 // A number takes at most this many bytes.
@@ -21,7 +21,17 @@ fn ends_number(byte: u8) -> bool
     byte < 0x80
 }
 
-// The number at the front of the input, and the bytes after it. The input stands at a place of a larger one.
+/// The number at the front of the input, and the bytes after it. The input is the end of a larger one, and `place` the
+/// index there of its first byte, at which a number is refused.
+///
+/// # Errors
+///
+/// `Stop::CutShort` where the input ends before the number does, and `Stop::Misspelt` where the number begins with
+/// 0x80, has more than five bytes or is over `MOST_NUMBER`.
+///
+/// ```text
+/// 05 at place 3: the number 5      81 00: 128      80 05: misspelt at the place
+/// ```
 pub fn read_number(input: &[u8], place: usize) -> Result<(u64, &[u8]), Fault>
     ensures answer { parse_seen result ≡ number_read place input.now }
     ensures rest { IfOk result (λ p. length p.1.now < length input.now) }

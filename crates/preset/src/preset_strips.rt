@@ -1,11 +1,11 @@
-// PresetStrips for the largest preset, and the preset that is read into them.
+// Strips for the largest preset, and the preset that is read into them.
 use crate::entry::Entry;
 use crate::header::Head;
 use crate::loaded::Loaded;
 use crate::reader::{STRIP, read_parts};
 use fault::Fault;
 
-// A strip for the letters and one for the entries: arrays, since nothing here is on the heap.
+/// A strip for the letters and one for the entries of a preset, 4,096 of each, with room for the largest: 68 KiB.
 #[derive(Drop)]
 pub struct PresetStrips {
     letters: [u8; STRIP],
@@ -24,7 +24,7 @@ impl PresetStrips {
     ghost use Rattle.preset.specs.PresetStrips.{letters_of, entries_of, EndsAs, ReadInto};
     ghost use Rattle.preset.specs.Writes.{header_fronts};
 
-    // PresetStrips of zeros.
+    /// Strips of zeros.
     pub fn new() -> PresetStrips
         ensures letters { letters_of result ≡ replicate most_words 0 }
         ensures entries { entries_of result
@@ -57,7 +57,16 @@ impl PresetStrips {
         Loaded::from_fronts(head, &self.letters, &self.entries)
     }
 
-    // The preset that the whole input is, on the strips.
+    /// Reads the preset that the whole input is, and lends it on the strips.
+    ///
+    /// # Errors
+    ///
+    /// As `read_whole`, but for `ShortStrip`: there is room for any preset.
+    ///
+    /// ```rust
+    /// let mut strips = PresetStrips::new();
+    /// let preset = strips.read(bytes)?;
+    /// ```
     pub fn read(&mut self, input: &[u8]) -> Result<Loaded<'_>, Fault>
         ensures answer { loaded result ≡ whole_preset input.now }
         ensures* strips { sem 𝓛 (EndsAs self.entry (ReadInto self.old (whole_preset input.now))) }

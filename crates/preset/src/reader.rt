@@ -17,7 +17,7 @@ use crate::items::{fill, skip};
 use fault::limits::MOST_WORDS;
 use fault::{Fault, Stop};
 
-// How long the strips have to be that a preset is read into: the largest preset fits.
+/// How long the strips have to be that a preset is read into, 4,096 letters and 4,096 entries: the largest preset fits.
 pub const STRIP: usize = MOST_WORDS as usize;
 
 // Where the parts of a preset begin.
@@ -73,8 +73,14 @@ fn fill_strips(input: &[u8], scan: Scan, letters: &mut [u8], entries: &mut [Entr
     fill::<Entry>(limits, scan.entries, entries, scan.head.entry_count());
 }
 
-// The preset at the front of the input goes to the front of the strips, and the bytes after it are handed on. The strips
-// are the caller's, of any length, so they are no `PresetStrips`.
+/// Reads the preset at the front of the input, its q^n letters and q^k entries to the front of the strips, and answers
+/// its header and the bytes after it.
+///
+/// # Errors
+///
+/// `Stop::ShortStrip` at place 0 where a strip is shorter than `STRIP`; else the first number at fault, at the index of
+/// its first byte: `CutShort`, `Misspelt`, `UnknownKind`, `BadAlphabet`, `BadWindow`, `BadReach`, `BadWidth`,
+/// `TooManyWords` (at the width), `BadLetter` or `BadEntry`.
 pub fn read_preset<'a>(
     input: &'a [u8],
     letters: &mut [u8],
@@ -124,7 +130,12 @@ pub(crate) fn read_parts(
     Ok(head)
 }
 
-// The preset that the whole input is goes to the front of the strips.
+/// Reads the preset that the whole input is, its letters and entries to the front of the strips, and answers its
+/// header.
+///
+/// # Errors
+///
+/// As `read_preset`, and `Stop::SurplusBytes` at the first byte after the preset.
 pub fn read_whole(input: &[u8], letters: &mut [u8], entries: &mut [Entry]) -> Result<Header, Fault>
     ensures answer { plainly result ≡ header_of (whole_reading letters.old entries.old input.now) }
     ensures letters { let read = whole_reading letters.old entries.old input.now in

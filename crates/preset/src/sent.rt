@@ -9,26 +9,26 @@ ghost use Rattle.preset.specs.Sending.{Sending, voices_sending, pitch_sending, c
 use crate::entry::{Entry, allowed};
 use charge::{Both, Channels, Charge, ChargeKind, Pitch, Voices};
 
-// A kind of charge that presets have. The member `sending` says which kind it is, and which entry a charge is
-// sent as.
+/// A kind of charge that presets have. The member `sending` says which kind it is, and which entry a charge is sent as.
 pub trait Sent: Charge {
     ghost sending: { Sending Self };
 
+    /// The kind itself.
     fn kind() -> ChargeKind
         ensures { result ≡ sending.named };
 
-    // The entry that the charge is sent as. No `From`, since clauses go by the member `sending`.
+    /// The entry that the charge is sent as. It is no `From`, since clauses go by the member `sending`.
     fn to_entry(self) -> Entry
         ensures { result ≡ sending.entry self };
 
-    // The charge that is sent as an entry, if the kind allows the entry.
+    /// The charge that is sent as an entry, if the kind allows the entry.
     fn from_entry(entry: Entry) -> Option<Self>
         ensures { option_map sending.entry result
             ≡ (if fits sending.named entry then Some entry else None) };
 }
 
-/// Calls a generic function at the charges of a kind that is known only as the program runs. The first type parameter of
-/// the function is that of the charges, and is written `_`:
+/// Calls a generic function at the charges of a kind that is known only as the program runs. The first type parameter
+/// of the function is that of the charges, and is written `_`:
 ///
 /// ```text
 /// by_kind!(preset.kind, judge::<_>(preset))    // judge::<Voices>(preset) where the kind is voices, and so on

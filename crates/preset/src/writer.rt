@@ -106,8 +106,14 @@ fn put_preset(preset: &Loaded<'_>, out: &mut [u8]) -> usize
     letters + put_all::<Entry>(limits, preset.entries, &mut out[letters..])
 }
 
-// Writes a preset to the front of the byte strip and answers how many bytes it takes. Of strips that are longer
-// than the header asks, the fronts are written. They are no `Loaded`, since they may be of any header.
+/// Writes a preset to the front of the byte strip and answers how many bytes it takes. Of letters and entries, as many
+/// are written as the header asks, from the front of their strips. They are no `Loaded`, since the header may be any.
+///
+/// # Errors
+///
+/// At place 0, by the first of these that fits: `Stop::UnknownKind`, `BadAlphabet`, `BadWindow`, `BadReach`,
+/// `BadWidth`, `TooManyWords`, `ShortStrip` for too few letters or entries; then `BadLetter` or `BadEntry` at the index
+/// of the first that is not allowed; last `ShortStrip` at place 0 where the bytes have no room.
 #[tactic(auto, using(crate::proofs::NumberLaws::number_reads_back, crate::proofs::PresetLaws::preset_reads_back))]
 pub fn write_preset(
     header: Header,

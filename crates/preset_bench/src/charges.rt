@@ -49,7 +49,12 @@ fn write_charges<C: Sent>(entries: &[Entry], strip: &mut [C])
     }
 }
 
-// Writes the charges that are sent as the entries to the front of a strip. A refusal leaves the strip as it was.
+/// Writes the charges that are sent as the entries to the front of a strip, one each.
+///
+/// # Errors
+///
+/// `Stop::ShortStrip` at place 0 where the strip is shorter than the entries; `Stop::BadEntry` at the index of the
+/// first entry that the kind does not allow. A refusal leaves the strip as it was.
 pub fn fill_charges<C: Sent>(entries: &[Entry], strip: &mut [C]) -> Result<(), Fault>
     ensures answer { plainly result
         ≡ charges_checked C.sending.named (length strip.old) entries.now }

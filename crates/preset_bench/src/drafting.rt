@@ -10,7 +10,17 @@ use charge::Charge;
 use fault::Fault;
 use preset::Loaded;
 
-// The bench of a preset's rule and of the density that some charges are.
+/// The bench of a preset's rule and of the density that some charges are, q^k of them, by the codes of their words.
+///
+/// # Errors
+///
+/// As `TableRule::fill`, `TableDensity::fill` and then `Draft::new`. Of a preset that was read and of charges that are
+/// sent as its entries none is due.
+///
+/// ```rust
+/// fill_charges(preset.entries, &mut charges)?;
+/// let verdict = draft(preset, &charges)?.judge(&mut crossings, &mut ring)?;
+/// ```
 pub fn draft<'a, C: Charge>(
     preset: Loaded<'a>,
     charges: &'a [C],

@@ -24,7 +24,14 @@ fn judge_draft<C: Charge, R: Rule + Drop, D: Density<C> + Drop>(
     Ok(draft.judge(crossings, ring)?.found())
 }
 
-// Judges the rule of a preset under the density that some charges are, on strips as the judge has them.
+/// Judges the rule of a preset under the density that some charges are, and answers the break, if it has one. In either
+/// verdict its q^(n+k-2) crossings stand at the front of a strip afterwards, and on a break the ring that shows it at
+/// the front of another.
+///
+/// # Errors
+///
+/// As `draft` and then `Draft::judge`: `Stop::ShortStrip` at place 0 where the crossings or the ring, of up to 2(n + k)
+/// - 3 cells, have no room.
 pub fn judge<C: Charge>(
     preset: Loaded<'_>,
     charges: &[C],

@@ -18,7 +18,7 @@ fn sent_break<C: Sent>(found: Break<C>) -> Break<Entry>
     }
 }
 
-// What was found, with its totals as entries.
+/// What was found, with its two totals as the entries that they are sent as.
 pub fn sent_found<C: Sent>(
     found: Result<Option<Break<C>>, Fault>,
 ) -> Result<Option<Break<Entry>>, Fault>

@@ -115,7 +115,20 @@ fn compare_with(
     }
 }
 
-// The line of two names and their bytes: whether the densities of the two presets have the same total on every ring.
+/// The line of two names and their bytes: whether the densities of the two presets give every ring the same total. It
+/// has no newline, and its parts are kept apart by tabs. A preset that is refused has its own name on the line, the
+/// first before the second.
+///
+/// ```text
+/// NAME OTHER agree
+/// NAME OTHER differ WORD RING TOTAL TOTAL
+/// NAME OTHER kinds differ
+/// NAME refused CODE PLACE
+/// ```
+///
+/// # Errors
+///
+/// Where there is not enough memory.
 pub fn compare_line(
     alloc: Global,
     name: &str,

@@ -71,7 +71,12 @@ fn cross_kind(alloc: Global, preset: Loaded<'_>) -> Result<ReportLine, ShowError
     by_kind!(preset.kind, cross_charges::<_>(alloc, preset))
 }
 
-// What crosses at each word, a line each, of the preset that the bytes are.
+/// The page of what crosses at each word of n + k - 2 letters, a line each, of the preset that the bytes are: the word,
+/// a tab and the charge, by the codes of the words. It is good where the preset holds.
+///
+/// # Errors
+///
+/// The preset's refusal, for which no memory is needed, or `ShowError::Memory`.
 pub fn crossings_page(alloc: Global, input: &[u8]) -> Result<ReportLine, ShowError>
     ensures page { IfSome (unless_memory result) (CrossingsTell (whole_preset input.now)) }
     // No memory is needed to tell a refusal.

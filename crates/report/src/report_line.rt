@@ -6,10 +6,11 @@ use charge::ChargeKind;
 use console::EntryWord;
 use preset::Entry;
 
-// A text, and whether it tells that what was asked is so. There is a text in either case, so the two are no `Option`.
+/// A text, and whether it tells that what was asked is so. There is a text in either case, so the two are no `Option`.
 #[derive(Drop)]
 pub struct ReportLine {
     pub text: String,
+    /// Whether a preset holds, or two densities agree.
     pub good: bool,
 }
 

@@ -1,13 +1,14 @@
-// The program: presets shown as text, text encoded as presets, presets judged and compared, and rings played on them. What
-// the arguments and the scripts ask, and what is answered, are in the crate `cli`; the work is in the crates below it.
+// The program: presets shown as text, text encoded as presets, presets judged and compared, and rings played on them.
+// What the arguments and the scripts ask, and what is answered, are in the crate `cli`; the work is in the crates below
+// it.
 #![tactic(auto)]
 
 mod files;
 mod output;
 mod playing;
+mod ring_strips;
 mod rows;
 mod session;
-mod ring_strips;
 mod trouble;
 
 use crate::files::{arguments, is_same_file, read_file, write_file};

@@ -1,9 +1,9 @@
 // Benches of presets of any kind, judged, and what is played on those that hold.
 use crate::files::{read_file, read_input};
 use crate::output::{print_text, refuse};
+use crate::ring_strips::RingStrips;
 use crate::rows::{RingRun, run_meters, run_rings};
 use crate::session;
-use crate::ring_strips::RingStrips;
 use crate::trouble::Trouble;
 use bench::Verdict;
 use cli::{BreaksText, Command, RingDigits, Outcome, read_script};

@@ -46,7 +46,8 @@ impl<C: Charge> RingStrips<C> {
         )
     }
 
-    // Answers some steps: as one step where they are done, as the first that is refused, and as any where no ring is open.
+    // Answers some steps: as one step where they are done, as the first that is refused, and as any where no ring is
+    // open.
     pub(crate) fn step<'a>(
         &mut self,
         player: PresetPlayer<'a, C>,
@@ -68,7 +69,8 @@ impl<C: Charge> RingStrips<C> {
         (player, answer)
     }
 
-    // Reads every site of the ring that is open: a site past its last is refused, and where none is open there is no answer.
+    // Reads every site of the ring that is open: a site past its last is refused, and where none is open there is no
+    // answer.
     pub(crate) fn read_all<'a>(
         &mut self,
         player: PresetPlayer<'a, C>,

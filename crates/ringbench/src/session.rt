@@ -1,5 +1,5 @@
-// A script that is played on a preset. Each command is answered as it is made, so that no room is taken by how many calls
-// there are.
+// A script that is played on a preset. Each command is answered as it is made, so that no room is taken by how many
+// calls there are.
 use crate::output::print_text;
 use crate::ring_strips::{PresetPlayer, RingStrips};
 use crate::trouble::Trouble;
