@@ -43,6 +43,7 @@ pub struct ReadAnswer {
     pub code: u32,
     /// The place of a refusal, an index of a byte.
     pub place: usize,
+    /// The header; of a refusal, five zeros.
     pub header: Header,
 }
 
@@ -60,8 +61,9 @@ pub struct JudgeAnswer {
     pub word: usize,
     /// How many cells the ring has that shows it.
     pub len: usize,
-    /// That ring's total, and its total after one step.
+    /// That ring's total.
     pub before: Entry,
+    /// Its total after one step.
     pub after: Entry,
 }
 
@@ -71,13 +73,17 @@ pub struct JudgeAnswer {
 pub struct ScriptAnswer {
     /// 0 none, 1 done, 2 a reading of a site, 3 a refusal.
     pub answer: u32,
-    /// The stop code of a refusal, and its place.
+    /// The stop code of a refusal, or 0.
     pub code: u32,
+    /// The place of a refusal.
     pub place: usize,
-    /// The site's charges of a reading: at opening, crossed into it, touched, and now.
+    /// Of a reading, the site's charge as the ring was opened.
     pub opening: Entry,
+    /// Of a reading, what has crossed into the site.
     pub crossed: Entry,
+    /// Of a reading, what touches have added.
     pub touched: Entry,
+    /// Of a reading, the site's charge now.
     pub now: Entry,
 }
 

@@ -13,6 +13,7 @@ use charge::ChargeKind;
 pub struct Loaded<'a> {
     /// The kind of charge that the header names.
     pub kind: ChargeKind,
+    /// The number of that kind, and the sizes.
     pub header: Header,
     /// The rule's answers, by the codes of their words: q^n letters below q.
     pub letters: &'a [u8],

@@ -9,6 +9,7 @@ use preset::Entry;
 /// A text, and whether it tells that what was asked is so. There is a text in either case, so the two are no `Option`.
 #[derive(Drop)]
 pub struct ReportLine {
+    /// A line without its end, or a page of whole lines.
     pub text: String,
     /// Whether a preset holds, or two densities agree.
     pub good: bool,
