@@ -37,7 +37,8 @@ fn compare_charges<C: Sent>(
     requires first { first.kind ≡ C.sending.named }
     requires second { second.kind ≡ C.sending.named }
     ensures { IfOk result
-        (CompareLine C.kind C.sending subject.now (preset_of first.entry) (preset_of second.entry)) }
+        (CompareLine C.kind C.sending subject.now
+        (preset_of first.entry) (preset_of second.entry)) }
 {
     let charges = charges_of::<C>(alloc, first.entries)?;
     let others = charges_of::<C>(alloc, second.entries)?;
@@ -69,7 +70,8 @@ fn compare_kind(
 ) -> Result<ReportLine, AllocError>
     requires { second.kind ≡ first.kind }
     ensures { IfOk result
-        (ComparedAs true first.entry.kind subject.now (preset_of first.entry) (preset_of second.entry)) }
+        (ComparedAs true first.entry.kind subject.now
+        (preset_of first.entry) (preset_of second.entry)) }
 {
     by_kind!(
         first.kind,
@@ -86,7 +88,8 @@ fn compare_loaded(
 ) -> Result<ReportLine, AllocError>
     ensures { let p = preset_of first.entry in
         let other = preset_of second.entry in
-        IfOk result (ComparedAs (same_kind p.head.kind other.head.kind) p.head.kind subject.now p other) }
+        IfOk result (ComparedAs (same_kind p.head.kind other.head.kind) p.head.kind
+        subject.now p other) }
 {
     if first.kind != second.kind {
         return kinds_line(alloc, subject);
