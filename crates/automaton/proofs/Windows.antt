@@ -64,7 +64,7 @@ next-letter-at r c i q n l x a within eq en el ex ea =
     ∙ ap (λ t. get_or r.answers t 0) (ex ∙ (λ j. code (eq j) (window (en j) (cell c) (before (length c) (el j) i))))
     ∙ sym (get_or-table (length c) (λ j. answer r (window r.n (cell c) (before (length c) r.l j))) 0 i within)
 
--- one entry more at the at_front of a strip, and all of them
+-- one entry more at the front of a strip, and all of them
 module _ {X : Type 0} (xs old strip : List X) (i : ℕ) where
   pub front_more : (none x : X) → i < length xs → i < length old → x ≡ get_or xs i none → strip ≡ take i xs ++ drop i old →
       set strip i x ≡ take (i + 1) xs ++ drop (i + 1) old

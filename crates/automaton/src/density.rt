@@ -5,9 +5,9 @@ ghost use Rattle.automaton.specs.Meanings.{Weights, Weighed};
 
 use charge::Charge;
 
-/// A density: a charge for each word of k letters below q. The member `weights` is q, k and the list of what the charges
-/// mean, by code; `lawful` says that q is 2 to 8, that k is 1 to 12, and that there are q^k charges. Questions change nothing
-/// and repeat their answers.
+/// A density: a charge for each word of k letters below q. The member `weights` is q, k and the list of what the
+/// charges mean, by code; `lawful` says that q is 2 to 8, that k is 1 to 12, and that there are q^k charges.
+/// Questions change nothing and repeat their answers.
 pub trait Density<C: Charge> {
     ghost weights: { (K : Kind C) → Self → Weights K.group.Carrier };
 

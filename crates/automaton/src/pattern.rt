@@ -58,11 +58,12 @@ impl<C: Charge> PatternDensity<C> {
         }
     }
 
-    /// Becomes the density that gives `charge` on the word of the first k letters of `word`, over q letters, or refuses and
-    /// stays as it was. Letters past the first k are ignored.
+    /// Becomes the density that gives `charge` on the word of the first k letters of `word`, over q letters, or
+    /// refuses and stays as it was. Letters past the first k are ignored.
     ///
-    /// Refused by `BadAlphabet`, `BadWidth`, `TooManyWords` where q^k is above 4,096, `ShortStrip` where `word` has fewer than
-    /// k letters, `BadLetter` at the index of the first letter not below q, and `BadEntry` where the charge may be no entry.
+    /// Refused by `BadAlphabet`, `BadWidth`, `TooManyWords` where q^k is above 4,096, `ShortStrip` where `word` has
+    /// fewer than k letters, `BadLetter` at the index of the first letter not below q, and `BadEntry` where the
+    /// charge may be no entry.
     #[tactic(auto, using(crate::proofs::VoicesInRange::patterns_in_range))]
     pub fn fill(&mut self, q: u64, k: u64, word: &[u8], charge: C) -> Result<(), Fault>
         ensures answer { plainly result ≡ passes (pattern_making C.kind q k word.now charge) }

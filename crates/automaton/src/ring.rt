@@ -28,8 +28,8 @@ pub struct Span {
 // A window's charge is booked at its first cell.
 const BOOKING_OFFSET: usize = 0;
 
-/// A ring of 1 to 4,096 cells, each of which has a letter below q; q is at most 8. Cell i is also cell i + L, where L is the
-/// number of cells.
+/// A ring of 1 to 4,096 cells, each of which has a letter below q; q is at most 8. Cell i is also cell i + L, where L
+/// is the number of cells.
 #[derive(Clone, Copy)]
 pub struct Ring<'a> {
     /// What the letters are below.
@@ -61,8 +61,8 @@ impl<'a> Ring<'a> {
 
     /// The ring of these cells under a rule, where another strip has `room` for as many.
     ///
-    /// Refused by `BadLength` where there are none or more than 4,096, `ShortStrip` where `room` is less than that, and
-    /// `BadLetter` at the first cell whose letter is not below the rule's q.
+    /// Refused by `BadLength` where there are none or more than 4,096, `ShortStrip` where `room` is less than that,
+    /// and `BadLetter` at the first cell whose letter is not below the rule's q.
     pub fn under<R: Rule>(rule: &R, room: usize, cells: &'a [u8]) -> Result<Ring<'a>, Fault>
         ensures { let q = (R.meaning rule.now).q in
             let checked = ring_checked q room cells.now in
@@ -95,7 +95,8 @@ impl<'a> Ring<'a> {
         i % len + (len - before % len)
     }
 
-    /// The code of the word in the cells around cell i, any number from 0 on. A cell may stand in the word more than once.
+    /// The code of the word in the cells around cell i, any number from 0 on. A cell may stand in the word more than
+    /// once.
     pub fn span_code(self, span: Span, i: usize) -> usize
         ensures { let cells = self.entry.cells.now in
             result ≡ code self.entry.q
@@ -169,8 +170,8 @@ impl<'a> Ring<'a> {
     }
 }
 
-/// Writes the ring after one step to the front of a strip, whose entries past it stay: the next letter of cell i is the
-/// rule's answer for the word in the n cells from l cells before cell i on.
+/// Writes the ring after one step to the front of a strip, whose entries past it stay: the next letter of cell i is
+/// the rule's answer for the word in the n cells from l cells before cell i on.
 ///
 /// Refused by `BadLength` where the ring does not have 1 to 4,096 cells, `ShortStrip` where the strip has fewer, and
 /// `BadLetter` at the first cell whose letter is not below the rule's q. A refusal writes nothing.
@@ -191,8 +192,8 @@ pub fn next_ring<R: Rule>(rule: &R, ring: &[u8], strip: &mut [u8]) -> Result<(),
 
 /// The total of a ring: the sum of the charges of its sites.
 ///
-/// Refused by `BadLength` where the ring does not have 1 to 4,096 cells, and `BadLetter` at the first cell whose letter is
-/// not below the density's q.
+/// Refused by `BadLength` where the ring does not have 1 to 4,096 cells, and `BadLetter` at the first cell whose
+/// letter is not below the density's q.
 pub fn total<C: Charge, D: Density<C>>(density: &D, ring: &[u8]) -> Result<C, Fault>
     ensures { let d = D.weights C.kind density.now in
         charged C.kind result

@@ -2,9 +2,9 @@
 ghost use Rattle.std.specs.Prelude.{◌≡◌, slice_index};
 ghost use Rattle.automaton.specs.Meanings.{Local, Lawful};
 
-/// A rule of cellular automata: a letter below q for each word of n letters below q. The member `meaning` is q, n, the reach l
-/// and the list of the answers, by code; `lawful` says that q is 2 to 8, n is 1 to 12, l is below n, and that there are q^n
-/// answers below q. Questions change nothing and repeat their answers.
+/// A rule of cellular automata: a letter below q for each word of n letters below q. The member `meaning` is q, n,
+/// the reach l and the list of the answers, by code; `lawful` says that q is 2 to 8, n is 1 to 12, l is below n, and
+/// that there are q^n answers below q. Questions change nothing and repeat their answers.
 pub trait Rule {
     ghost meaning: { Self → Local };
 

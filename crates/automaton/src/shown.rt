@@ -1,4 +1,4 @@
-// WordSet and rings, shown as digits.
+// Words and rings, shown as digits.
 ghost use Rattle.std.specs.Prelude.{◌≤◌, Some};
 ghost use Rattle.automaton.specs.Shown.{digits};
 ghost use Rattle.automaton.specs.Words.{word};

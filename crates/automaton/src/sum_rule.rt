@@ -71,11 +71,11 @@ impl<'a> SumRule<'a> {
         }
     }
 
-    /// Becomes the rule of the first n (q - 1) + 1 letters, one for each sum of a window's letters, or refuses and stays as it was. Letters past
-    /// those are ignored.
+    /// Becomes the rule of the first n (q - 1) + 1 letters, one for each sum of a window's letters, or refuses and
+    /// stays as it was. Letters past those are ignored.
     ///
-    /// Refused by `BadAlphabet`, `BadWindow`, `BadReach`, `TooManyWords` where q^n is above 4,096, `ShortStrip` where there are
-    /// fewer letters, and `BadLetter` at the index of the first letter not below q.
+    /// Refused by `BadAlphabet`, `BadWindow`, `BadReach`, `TooManyWords` where q^n is above 4,096, `ShortStrip` where
+    /// there are fewer letters, and `BadLetter` at the index of the first letter not below q.
     pub fn fill(&mut self, q: u64, n: u64, l: u64, letters: &'a [u8]) -> Result<(), Fault>
         ensures answer { plainly result ≡ passes (rule_making q n l (sum_count q n) letters.now) }
         ensures rule { OnOk result (sum_rule_meant self.new ≡ sum_rule q n l letters.now) }

@@ -53,11 +53,11 @@ impl<'a, C: Charge> TableDensity<'a, C> {
         }
     }
 
-    /// Becomes the density of the first q^k entries, in the order of the codes of words, or refuses and stays as it was.
-    /// Entries past those are ignored.
+    /// Becomes the density of the first q^k entries, in the order of the codes of words, or refuses and stays as it
+    /// was. Entries past those are ignored.
     ///
-    /// Refused by `BadAlphabet`, `BadWidth`, `TooManyWords` where q^k is above 4,096, `ShortStrip` where there are fewer
-    /// entries, and `BadEntry` at the index of the first charge that may be no entry.
+    /// Refused by `BadAlphabet`, `BadWidth`, `TooManyWords` where q^k is above 4,096, `ShortStrip` where there are
+    /// fewer entries, and `BadEntry` at the index of the first charge that may be no entry.
     #[tactic(auto, using(crate::proofs::VoicesInRange::tables_in_range))]
     pub fn fill(&mut self, q: u64, k: u64, entries: &'a [C]) -> Result<(), Fault>
         ensures answer { plainly result ≡ passes (table_making C.kind q k entries.now) }

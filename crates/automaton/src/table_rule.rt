@@ -50,11 +50,11 @@ impl<'a> TableRule<'a> {
         }
     }
 
-    /// Becomes the rule of the first q^n letters, in the order of the codes of words, or refuses and stays as it was. Letters past
-    /// those are ignored.
+    /// Becomes the rule of the first q^n letters, in the order of the codes of words, or refuses and stays as it was.
+    /// Letters past those are ignored.
     ///
-    /// Refused by `BadAlphabet`, `BadWindow`, `BadReach`, `TooManyWords` where q^n is above 4,096, `ShortStrip` where there are
-    /// fewer letters, and `BadLetter` at the index of the first letter not below q.
+    /// Refused by `BadAlphabet`, `BadWindow`, `BadReach`, `TooManyWords` where q^n is above 4,096, `ShortStrip` where
+    /// there are fewer letters, and `BadLetter` at the index of the first letter not below q.
     ///
     /// ```rust
     /// let mut rule_184 = TableRule::zero();

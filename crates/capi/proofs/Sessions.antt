@@ -96,7 +96,7 @@ given_more means told said said' strip i x y z h g is more told_is = record {
   strip_is = take_more_set strip i z h ∙ ap₂ (λ t u. t ++ (u ∷ [])) g.strip_is told_is ∙ sym (map_push told g.given x);
 }
 
--- and they stand at the at_front of the strip, whose other answers stay
+-- and they stand at the front of the strip, whose other answers stay
 pub given_front : {X Y Z : Type 0} (means : X → Y) (told : X → Z) (said : List Y) (strip old : List Z) (i : ℕ) (g : Given means told said strip i) → drop i strip ≡ drop i old →
     strip ≡ at_front (map told g.given) old
 given_front means told said strip old i g past =

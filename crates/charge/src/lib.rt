@@ -16,9 +16,9 @@ pub use kind::{ChargeKind, UnknownKind};
 pub use pitch::{PITCH_CLASSES, Pitch};
 pub use voices::{LEAST_VOICES, MOST_VOICES, Voices};
 
-/// A kind of charge: each charge means an element of a commutative group. The member `kind` holds the group with its laws,
-/// so an impl proves them, and code above is proved from them alone: the bench, the judge and the player are to be had for
-/// every kind that has this trait.
+/// A kind of charge: each charge means an element of a commutative group. The member `kind` holds the group with its
+/// laws, so an impl proves them, and code above is proved from them alone: the bench, the judge and the player are to
+/// be had for every kind that has this trait.
 pub trait Charge: Copy {
     ghost kind: { Kind Self };
 
@@ -38,7 +38,8 @@ pub trait Charge: Copy {
     fn same(self, other: Self) -> bool
         ensures { IsTrue result ↔ (kind.means self ≡ kind.means other) };
 
-    /// Whether the charge may be an entry of a density. Of two charges with one meaning, one may be and the other not.
+    /// Whether the charge may be an entry of a density. Of two charges with one meaning, one may be and the other
+    /// not.
     fn is_entry(self) -> bool
         ensures { result ≡ kind.entry self };
 }

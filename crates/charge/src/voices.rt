@@ -12,7 +12,8 @@ pub const LEAST_VOICES: i64 = -2_147_483_648;
 pub const MOST_VOICES: i64 = 2_147_483_647;
 
 /// A number of voices: a whole number modulo 2^64, read as a signed number. Sums wrap around. From `LEAST_VOICES` to
-/// `MOST_VOICES` it may be an entry, and what is judged under such entries is also true of whole numbers without bounds.
+/// `MOST_VOICES` it may be an entry, and what is judged under such entries is also true of whole numbers without
+/// bounds.
 #[derive(Clone, Copy, PartialEq, Eq, Debug)]
 pub struct Voices {
     /// How many voices.

@@ -1,4 +1,4 @@
--- A text cut past its first line. Assumes nothing.
+-- A text cut after its first line. Assumes nothing.
 use Rattle.std.proofs.Common.{◌≡◌, ℕ, true, false, eqb, List, [], ◌∷◌, length, drop, refl, ap, ◌∙◌, ⊎_elim, one-add, ◌<◌, arith}
 use Rattle.std.proofs.lemmas.Bool.{cases_Bool}
 use Rattle.std.proofs.lemmas.List.{nil_from_length}
@@ -6,7 +6,7 @@ use Rattle.console.specs.Cutting.{newline, leading, past}
 use Rattle.console.specs.declared.cutting.Class.TheVariants.{NotNewline}
 use Rattle.cli.specs.Lines.{on_first, lines}
 
--- the first line, and the lines past the byte that ends it
+-- the first line, and the lines after the byte that ends it
 abbrev cut_once : List ℕ → List (List ℕ)
 cut_once bs = leading NotNewline bs ∷ lines (drop 1 (past NotNewline bs))
 

@@ -1,4 +1,4 @@
--- The words of a line, one past another. Assumes nothing.
+-- The words of a line, one after another. Assumes nothing.
 use Rattle.std.proofs.Common.{◌≡◌, ℕ, ◌<◌, true, false, List, [], ◌∷◌, length, sym, refl, ap, ◌∙◌, ⊎_elim, one-add, arith, length-drop, length-take}
 use Rattle.std.proofs.lemmas.Bool.{cases_Bool, not_from_true, not_from_false}
 use Rattle.std.specs.List.{prefix_len}
@@ -42,7 +42,7 @@ first_split (b ∷ bs) =
     (λ e. rw (e, first_split bs, leading_more NotBlank b bs (not_from_false (blank b) e), past_more NotBlank b bs (not_from_false (blank b) e), e))
     (cases_Bool (blank b))
 
--- the first word, and the words past it
+-- the first word, and the words after it
 pub words_split : (bs : List ℕ) → words bs ≡ with_first (leading NotBlank (past Blank bs)) (words (past NotBlank (past Blank bs)))
 unfolding words
 words_split bs = words-past_blanks bs ∙ ap (λ (p : List ℕ × List (List ℕ)). with_first p.0 p.1) (first_split (past Blank bs))

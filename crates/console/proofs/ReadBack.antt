@@ -270,7 +270,7 @@ module _ (part : PagePart) (n : ℕ) (args rest : List ℕ) (on_line : Of NotNew
       row_is part here here (sym (word_first n name (args ++ (10 ∷ rest)) w)) some name (words args) has same
       ∙ ap (λ (t : List ℕ). Ok (record { value = words args; line = n + 1; after = record { passed = n; text = t } })) a
 
--- the same past the end of a line
+-- the same after the end of a line
 row_next : (part : PagePart) (n : ℕ) (text : List ℕ) → row part (record { passed = n; text = 10 ∷ text }) ≡ row part (record { passed = n + 1; text = text })
 unfolding row
 row_next part n rest = refl

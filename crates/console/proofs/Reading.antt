@@ -1,4 +1,4 @@
--- What a page says, one step past another. Assumes nothing.
+-- What a page says, one step after another. Assumes nothing.
 use Rattle.std.proofs.Common.{◌≡◌, ℕ, ◌+◌, true, false, eqb, List, [], ◌∷◌, length, filter_map, IsErrAnd, Some, None, Ok, Err, Option, sym, refl, ap, ◌∙◌}
 use Rattle.std.specs.Borrow.{Bor}
 use Rattle.std.specs.Option.{ok_or, option_map}

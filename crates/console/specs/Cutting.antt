@@ -34,7 +34,7 @@ abbrev pub with_first : List ℕ → List (List ℕ) → List (List ℕ)
 with_first [] ws = ws
 with_first (b ∷ bs) ws = (b ∷ bs) ∷ ws
 
--- the word that a line begins with, which is empty before a blank and at the line's end, and the words past it
+-- the word that a line begins with, which is empty before a blank and at the line's end, and the words after it
 abbrev pub first_and_others : List ℕ → List ℕ × List (List ℕ)
 first_and_others [] = ([], [])
 first_and_others (b ∷ bs) =
@@ -50,7 +50,7 @@ words bs = with_first (first_and_others bs).0 (first_and_others bs).1
 abbrev pub words_left : LineWords → List (List ℕ)
 words_left ws = words ws.line.now
 
--- the words of a line that was split past its first word, if it has one
+-- the words of a line that was split after its first word, if it has one
 abbrev pub rejoined : Option Split → List (List ℕ)
 rejoined None = []
 rejoined (Some s) = s.leading.now ∷ words s.past.now

@@ -31,7 +31,7 @@ paired None p = None
 paired (Some s) None = None
 paired (Some s) (Some p) = Some (record { signed = s; plain = p })
 
--- the parts before and past a colon
+-- the parts before and after a colon
 abbrev pub halves : List ℕ → List ℕ → Option Entry
 halves w [] = None
 halves w (colon ∷ v) = paired (signed_number w) (number v)

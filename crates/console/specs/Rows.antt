@@ -17,7 +17,7 @@ use Rattle.console.specs.declared.row.Row.{Row}
 use Rattle.console.specs.declared.cutting.Class.TheVariants.{NotNewline}
 use Rattle.charge.specs.declared.kind.ChargeKind.{ChargeKind}
 
--- What a line says, its number, and the place past it.
+-- What a line says, its number, and the place after it.
 pub record PageRow (X : Type 0) : Type 0 where
   pub value : X
   pub line : ℕ
@@ -33,7 +33,7 @@ row_of f r = record { value = f r.value; line = r.line; after = place_meant r.af
 abbrev pub valued : {X Y : Type 0} → PageRow X → Y → PageRow Y
 valued r y = record { value = y; line = r.line; after = r.after }
 
--- the words past a part's name
+-- the words after a part's name
 abbrev pub named_row : PagePart → ℕ → TextPlace → List (List ℕ) → TextReading (PageRow (List (List ℕ)))
 named_row part line past [] = Err (Wrong line (Name part))
 named_row part line past (w ∷ ws) = cond (bytes_eq w (part_text part)) (Ok (record { value = ws; line = line; after = past })) (Err (Wrong line (Name part)))

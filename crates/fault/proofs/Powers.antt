@@ -7,7 +7,7 @@ use Rattle.fault.specs.Limits.{most_words, within, word_count}
 pub power_bound : (q m : ℕ) → q ≤ 8 → m ≤ 12 → q ^ m ≤ 8 ^ 12
 power_bound q m hq hm = le_trans (pow-le-pow_left hq m) (pow-le-pow_right {n = 8} (lit< tt) hm)
 
--- 13 letters of the smallest alphabet have too many word_count
+-- 13 letters of the smallest alphabet have too many words
 pub too_many : (q m : ℕ) → 2 ≤ q → 12 < m → 4096 < q ^ m
 too_many q m hq hm =
     let a : 2 ^ 13 ≤ 2 ^ m = pow-le-pow_right {n = 2} (lit< tt) {i = 13} {j = m} (omega arith) in

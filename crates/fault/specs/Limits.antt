@@ -15,7 +15,7 @@ most_window = 12
 abbrev pub most_width : ℕ
 most_width = 12
 
--- the word_count of a window are at most 4,096
+-- the words of a window are at most 4,096
 abbrev pub most_words : ℕ
 most_words = 4096
 
@@ -27,10 +27,10 @@ most_cells = 4096
 abbrev pub within : ℕ → ℕ → ℕ → Bool
 within low end v = nat_le low v && nat_lt v end
 
--- there are few enough word_count of m letters
+-- there are few enough words of m letters
 abbrev pub few_words : ℕ → ℕ → Bool
 few_words q m = nat_le (q ^ m) most_words
 
--- how many word_count of m letters there are, where q is an alphabet size and the word_count are few
+-- how many words of m letters there are, where q is an alphabet size and the words are few
 abbrev pub word_count : ℕ → ℕ → Option ℕ
 word_count q m = cond (within least_letters (suc most_letters) q && few_words q m) (Some (q ^ m)) None

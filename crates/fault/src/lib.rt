@@ -10,8 +10,8 @@ use std::fmt;
 
 pub mod limits;
 
-/// Why a call is refused: one case for each stop code, in the order of their numbers. Where several fit, the lowest is
-/// given; in reading a preset, the first number at fault decides.
+/// Why a call is refused: one case for each stop code, in the order of their numbers. Where several fit, the lowest
+/// is given; in reading a preset, the first number at fault decides.
 #[derive(Clone, Copy, PartialEq, Eq, Debug)]
 pub enum Stop {
     /// The bytes end inside or before a number that is due.
@@ -96,14 +96,15 @@ impl Stop {
     }
 }
 
-/// A refusal: the stop code, and the place of what is at fault. It is handed up unaltered from where it arises, and the call
-/// that gives it has written nothing. As text it is a sentence with both.
+/// A refusal: the stop code, and the place of what is at fault. It is handed up unaltered from where it arises, and
+/// the call that gives it has written nothing. As text it is a sentence with both.
 #[derive(Clone, Copy, PartialEq, Eq, Debug)]
 pub struct Fault {
     /// Why the call is refused.
     pub stop: Stop,
-    /// In reading a preset, the index of the byte at which the number at fault begins, or of the first surplus byte. Of a
-    /// letter or an entry, the index of the first that is at fault, and of a touch's letter the ring's number of cells. Else 0.
+    /// In reading a preset, the index of the byte at which the number at fault begins, or of the first surplus byte.
+    /// Of a letter or an entry, the index of the first that is at fault, and of a touch's letter the ring's number of
+    /// cells. Else 0.
     pub place: usize,
 }
 

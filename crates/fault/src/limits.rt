@@ -20,8 +20,8 @@ pub const MOST_WORDS: u64 = 4096;
 /// The most cells of a ring; the fewest is 1.
 pub const MOST_CELLS: usize = 4096;
 
-/// How many words of m letters there are, q^m, where q is an alphabet size and there are at most `MOST_WORDS`; otherwise
-/// none. There is one word of no letters.
+/// How many words of m letters there are, q^m, where q is an alphabet size and there are at most `MOST_WORDS`;
+/// otherwise none. There is one word of no letters.
 pub fn word_count(q: u64, m: u64) -> Option<usize>
     ensures { result ≡ word_count q m }
 {

@@ -1,4 +1,4 @@
-// JudgeStrips as text.
+// Strips as text.
 use crate::kind::Tried;
 use fault::Fault;
 use std::io;

@@ -27,7 +27,7 @@ opens_passed : {A : Type 0} (q L : ℕ) (ring : List ℕ) (s : PlayerStrips A) �
     (1 ≤ L) × (each_fits (λ a. ltb a q) BadLetter 0 ring ≡ Ok tt)
 opens_passed q L ring s e = grind (arith, nat_tests)
 
--- a ring_in that is laid where it stood
+-- a front that is laid where it stood
 pub front_again : {X : Type 0} (n : ℕ) (xs : List X) → take n (take n xs ++ drop n xs) ≡ take n xs
 front_again n xs = ap (take n) (take-append-drop n xs)
 

@@ -25,7 +25,7 @@ pub letters_passed : {A : Type 0} (q L : ℕ) (call : PlayerCall) (s : PlayerStr
 letters_passed q L call s e =
     ring-letters q (call_letters L call s) (second (tested (tests L call s)) (each_fits (λ a. ltb a q) BadLetter 0 (call_letters L call s)) tt e)
 
--- of a word of call_letters below q its first call_letters are, and its last
+-- of a word of letters below q its first letters are, and its last
 pub front_below : (q : ℕ) (v w : List ℕ) → Letters q (v ++ w) → Letters q v
 front_below q v w below i h = subst (λ x. x < q) (get_or_append_left v w 0 i h) (below i (omega (arith, length-append v w)))
 
@@ -51,7 +51,7 @@ fits-push fits stop (x ∷ xs) a i =
       | false ↦ refl
     ]
 
--- the call_letters of a touch, where its other tests have passed
+-- the letters of a touch, where its other tests have passed
 module _ {C : Type 0} (K : Kind C) (q L i a : ℕ) (cells : List ℕ) (touched : List C) (room : L ≤ min (length cells) (length touched)) (on : i < L) where
   abbrev handed : PlayerStrips K.group.Carrier
   handed = meant K (touch_strips cells touched)

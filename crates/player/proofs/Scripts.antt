@@ -1,4 +1,4 @@
--- A script leaves the ring that stands at the ring_in of the strips, and its log has no gaps. Assumes nothing.
+-- A script leaves the ring that stands at the front of the strips, and its log has no gaps. Assumes nothing.
 use Rattle.std.proofs.Common.{◌≡◌, ℕ, ◌≤◌, Bool, true, false, cond, List, [], ◌∷◌, ◌++◌, length, take, drop, set, fold, Ok, Err, Result, sym, refl, ap, ◌∙◌, subst, length-set, take_at, leb-true, arith}
 use Rattle.std.proofs.lemmas.List.Sums.{fold_push}
 use Rattle.fault.specs.Refusals.{Refusal}
@@ -13,7 +13,7 @@ use Rattle.player.specs.Logs.Log.{◌then◌}
 use Rattle.player.specs.Scripts.{PlayedScript, got, left_by, logged, still_open, cells_after, played_more, played}
 use Rattle.player.proofs.Logs.{front_again, ring_same}
 
--- where a ring is open, it is the ring_in of the strips
+-- where a ring is open, it is the front of the strips
 abbrev pub Stands : {A : Type 0} → PlayerRing A → PlayerStrips A → Type 0
 Stands p s = 1 ≤ length p.cells → p ≡ ring_in (length p.cells) s
 
@@ -100,7 +100,7 @@ module _ {C : Type 0} (K : Kind C) (r : Local) (d : Weights K.group.Carrier) whe
           accepts closes = refl
       go (Err f) = (stands, refl)
 
-  -- a log without gaps, and what stands is the ring_in of the strips
+  -- a log without gaps, and what stands is the front of the strips
   abbrev Whole : Log K.group.Carrier → PlayerStrips K.group.Carrier → Type 0
   Whole log s = WithoutGaps K r d log × Stands (standing log) s
 
@@ -129,7 +129,7 @@ module _ {C : Type 0} (K : Kind C) (r : Local) (d : Weights K.group.Carrier) whe
   script_whole : (s : PlayerStrips K.group.Carrier) (script : List PlayerCall) → let q = played K r d s script in Whole q.log q.strips
   script_whole s script = played_whole (played K r d s []) (tt, λ h. absurd (omega arith)) script
 
-  -- where a ring is open after a script, it is the ring_in of the strips as they stand
+  -- where a ring is open after a script, it is the front of the strips as they stand
   pub script_stands : (s : PlayerStrips K.group.Carrier) (script : List PlayerCall) → Stands (standing (played K r d s script).log) (played K r d s script).strips
   script_stands s script = (script_whole s script).1
 

@@ -22,7 +22,7 @@ passed_is : (x : Result (Unit {0}) Fault) → plainly x ≡ Ok tt → Ok tt ≡ 
 passed_is (Ok t) e = refl
 passed_is (Err f) e = grind (arith, nat_tests)
 
--- as many at the at_front of a strip
+-- as many at the front of a strip
 front-count : {X : Type 0} (xs : List X) (n : ℕ) (old new : List X) → length xs ≡ n → new ≡ at_front xs old → xs ++ drop n old ≡ new
 front-count xs n old new size e = ap (λ k. xs ++ drop k old) (sym size) ∙ sym e
 

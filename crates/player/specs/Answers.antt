@@ -52,7 +52,7 @@ module _ {C : Type 0} (K : Kind C) where
   open_said (Ok p) = done
   open_said (Err e) = refused (refusal e.fault)
 
--- what a script is answer_meant, by what the call answers
+-- what a script is answered, by what the call answers
 abbrev pub done_or_refused : {C : Type 0} → Result (Unit {0}) Fault → Answer C
 done_or_refused (Ok t) = Done
 done_or_refused (Err f) = Refused_by f

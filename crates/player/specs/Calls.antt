@@ -63,7 +63,7 @@ tests L (reads i) s =
     ∷ []
 tests L closes s = []
 
--- the call_letters that a call is held to last: those of the ring, and then the letter of a touch
+-- the letters that a call is held to last: those of the ring, and then the letter of a touch
 abbrev pub call_letters : {A : Type 0} → ℕ → PlayerCall → PlayerStrips A → List ℕ
 call_letters L (opens ring) s = ring
 call_letters L (touches i a) s = take L s.cells ++ (a ∷ [])

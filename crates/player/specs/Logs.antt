@@ -143,7 +143,7 @@ module _ {C : Type 0} (K : Kind C) (r : Local) (d : Weights K.group.Carrier) whe
       let at : List K.group.Carrier → ℕ → K.group.Carrier = round K.group.zero in
       AddsUp K.group (arc_meters K.group (at p.opening) (at p.crossed) (at p.touched) (charges K r d p.cells) a n)
 
-  -- the call_answer is the plain ring's, what stands is what the plain ring keeps, and the arcs add up
+  -- the answer is the plain ring's, what stands is what the plain ring keeps, and the arcs add up
   pub record LineTrue (log : Log K.group.Carrier) (line : LogLine K.group.Carrier) : Type 0 where
     pub answers : line.got.said ≡ plain_answer (plain log) line.call line.handed
     pub rings : standing (log then line) ≡ plain (log then line)

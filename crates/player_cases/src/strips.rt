@@ -53,7 +53,7 @@ fn marked_answers<C: Played>(
 }
 
 impl<C: Played> CaseStrips<C> {
-    // CaseStrips of these lengths.
+    // Strips of these lengths.
     pub(crate) fn new(alloc: Global, rooms: &[i64]) -> anyhow::Result<CaseStrips<C>> {
         let [
             crossings,

@@ -66,7 +66,7 @@ module _ {X : Type 0} (read : List ℕ → Parse X) (sends : X → List ℕ) (Go
       let here = one.so bs x tail u s.1 in
       sent_cons n bs x tail ys more xs rest here (one.good bs x tail u s.1) (many_sent n tail ys more (bytes_after bs (sends x) tail u here) t.1) (pair_0 t.2) (pair_1 t.2)
 
--- a number_read in its range
+-- a number in its range
 module _ (whole low end : ℕ) (stop : Stop) where
   abbrev pub Within : ℕ → Type 0
   Within v = (low ≤ v) × (v < end) × (v ≤ number_limit)
@@ -144,7 +144,7 @@ signed_faithful false whole = record {
     zero-back (pos n) rest g = let h = eqb-true n 0 g in rw h
     zero-back (negsuc n) rest g = let z : false ≡ true = g in absurd (grind arith)
 
--- the largest value of a plain part is a number_read
+-- the largest value of a plain part is a number
 abbrev SmallEnd : Option ℕ → Type 0
 SmallEnd None = Unit {0}
 SmallEnd (Some end) = end ≤ number_limit

@@ -1,4 +1,4 @@
--- Entries written to the at_front of a strip one after another. Assumes nothing.
+-- Entries written to the front of a strip one after another. Assumes nothing.
 use Rattle.std.proofs.Common.{◌≡◌, ℕ, ◌+◌, ◌-◌, ◌<◌, ◌≤◌, List, [], ◌∷◌, ◌++◌, length, get_or, take, drop, set, sym, refl, ap, ◌∙◌, append_assoc, append-nil, arith, length-append, length-drop}
 use borrow.Rule.Slice.PartMut.{put_mid}
 use Rattle.std.proofs.lemmas.List.{length_push, drop_more, set_at, take_at, drop_at, drop-drop, take_rest, nil_from_length}
@@ -32,7 +32,7 @@ module _ {X : Type 0} (strip bs cs out : List X) (n : ℕ) (at : n ≡ length bs
   pub rest_room : length cs ≤ length (take (length out - n) (drop n out))
   rest_room = omega (arith, within, ap length (take_rest out n), length-drop n out)
 
-  -- and once it is written there, it stands after what stood at the at_front
+  -- and once it is written there, it stands after what stood at the front
   pub front_put : (now : List X) → now ≡ at_front cs (take (length out - n) (drop n out)) → put_mid n (length out - n) out now ≡ at_front (bs ++ cs) strip
   front_put now e =
       let nothing : drop (length out - n) (drop n out) ≡ [] = nil_from_length _ (omega (arith, length-drop (length out - n) (drop n out), length-drop n out)) in

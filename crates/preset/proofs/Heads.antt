@@ -13,11 +13,11 @@ use Rattle.preset.specs.Presets.{PresetHead, kind_read, head_read}
 use Rattle.preset.specs.Sizes.{Sized}
 use Rattle.preset.specs.Writes.{size_tests}
 
--- a part of a word has no more word_count than the whole
+-- a part of a word has no more words than the whole
 part-few : (q m n : ℕ) → 1 ≤ q → n ≤ m → q ^ m ≤ most_words → q ^ n ≤ most_words
 part-few q m n h k few = omega (arith, pow-le-pow_right h k)
 
--- where the alphabet is in range, the word_count are counted if they are few
+-- where the alphabet is in range, the words are counted if they are few
 pub words-few : (q m : ℕ) → within 2 9 q ≡ true → is_some (word_count q m) ≡ few_words q m
 words-few q m h = rw h (few (few_words q m))
   where

@@ -16,7 +16,7 @@ use Rattle.preset.proofs.PresetLaws.{whole-sound}
 front-taken : {X : Type 0} (xs strip after : List X) (n : ℕ) → length xs ≡ n → after ≡ at_front xs strip → take n after ≡ xs
 front-taken xs strip after n count e = ap (take n) e ∙ take_at xs (drop (length xs) strip) n count
 
--- the header_fronts of the strips are the preset
+-- the fronts of the strips are the preset
 pub record Front (bs : List ℕ) (head : PresetHead) (strips : PresetStrips) : Type 0 where
   pub is : whole_preset bs ≡ Ok (header_fronts head strips.letters strips.entries)
   pub sound : Sound (header_fronts head strips.letters strips.entries)

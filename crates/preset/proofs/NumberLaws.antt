@@ -1,4 +1,4 @@
--- Reading and spelling a number_read undo one another, and which bytes are refused. Assumes nothing.
+-- Reading and spelling a number undo one another, and which bytes are refused. Assumes nothing.
 use Rattle.std.proofs.Common.{◌≡◌, ℕ, zero, suc, ◌+◌, ◌*◌, ◌/◌, ◌%◌, ◌^◌, ◌<◌, ◌≤◌, true, false, eqb, leb, List, [], ◌∷◌, ◌++◌, map, length, get_or, take, drop, Ok, Err, sym, refl, ap, ◌∙◌, inl, inr, append_assoc, append-nil, div-add-mod', arith, length-append, ltb-false, ltb-true, le-ltb, lt-ltb, eqb-true, leb-false, leb-true}
 use borrow.Author.Tests.{eqb-false}
 use Rattle.std.proofs.lemmas.Nat.{div_below, mod_below, div-mul-add, mod-mul-add}
@@ -102,7 +102,7 @@ number_reads_back place v rest small =
     let is = number_is place (hs ++ (r ∷ rest)) led (omega arith) (length hs) t (longer hs r rest) (omega arith) in
     rw append_assoc (is ∙ rw (v-is, drop_last hs r rest))
 
--- the three answers to a number_read
+-- the three answers to a number
 data Outcome (place : ℕ) (bs : List ℕ) : Type 0 where
   bad : misspelt bs ≡ true → number_read place bs ≡ Err (refused_at Misspelt place) → Outcome place bs
   done : misspelt bs ≡ false → finished bs ≡ true → number_read place bs ≡ Ok (value (first bs), drop (tops bs + 1) bs) → Outcome place bs
@@ -145,7 +145,7 @@ digits_after h (d ∷ ds) k u =
     let t = append_assoc (digits 128 h) (d ∷ []) ds in
     cc
 
--- the digits of a number_read that does not begin with 0
+-- the digits of a number that does not begin with 0
 digits_of : (ds : List ℕ) → AllBelowBase 128 ds → (0 < length ds → 0 < get_or ds 0 0) → digits 128 (number_from_digits 128 ds) ≡ ds
 digits_of [] u k = refl
 digits_of (d ∷ ds) u k =
@@ -174,7 +174,7 @@ leads : (hs : List ℕ) (ys : List ℕ) → AllByRecursion Top hs → AllByRecur
 leads [] ys u k n h = h
 leads (b ∷ hs) ys u k n h = omega arith
 
--- bytes that spell a number_read are its spelling
+-- bytes that spell a number are its spelling
 spelt-so : (hs : List ℕ) (r : ℕ) (ys : List ℕ) → AllByRecursion Top hs → AllByRecursion (λ b. b < 256) hs → r < 128 → (get_or (hs ++ ys) 0 0 ≡ 128 → ⊥) → spell (value (hs ++ (r ∷ []))) ≡ hs ++ (r ∷ [])
 spelt-so hs r ys u k h n =
     let ds = map (λ b. b % 128) hs in
@@ -187,7 +187,7 @@ spelt-so hs r ys u k h n =
     let t = tops_are hs u k in
     rw (q, m, d, t)
 
--- bytes that finish a number_read, taken apart
+-- bytes that finish a number, taken apart
 front-is : (bs : List ℕ) → tops bs < length bs → take (tops bs + 1) bs ≡ take (tops bs) bs ++ (get_or bs (tops bs) 0 ∷ [])
 front-is bs h = take_more bs (tops bs) 0 h
 

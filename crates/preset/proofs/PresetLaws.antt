@@ -31,7 +31,7 @@ use Rattle.preset.proofs.NumberLaws.{number_reads_back, number_spells_back}
 use Rattle.preset.proofs.Outcomes.{never, ok-is, and_ok, cond_ok, pair_0, pair_1}
 use Rattle.preset.proofs.Scanning.{preset-is}
 
--- a kind by its number_read
+-- a kind by its number
 kind-number : (n : ℕ) (kind : ChargeKind) → kind_of n ≡ Some kind → number_of kind ≡ n
 kind-number n Voices e = grind (arith, nat_tests)
 kind-number n Pitch e = grind (arith, nat_tests)
@@ -158,7 +158,7 @@ header-reads whole head tail named s =
     let done = head_done whole bs r₁ r₂ r₃ r₄ r₅ head.kind h.kind h.q h.n h.l h.k (sym e₁) (sym e₂) (sym e₃) (sym e₄) (sym e₅) (le-leb (h.q ^ (h.n + h.k - 1)) most_words s.few) (sym named) in
     ap (head_read whole) (five (spell h.kind) (spell h.q) (spell h.n) (spell h.l) (spell h.k) tail) ∙ sym done
 
--- a letter is a small number_read
+-- a letter is a small number
 letter-within : (whole q : ℕ) → q < 9 → (xs : List ℕ) → AllByRecursion (λ x. ltb x q ≡ true) xs → AllByRecursion (λ x. (0 ≤ x) × (x < q) × (x ≤ number_limit)) xs
 letter-within whole q h [] u = tt
 letter-within whole q h (x ∷ xs) u = let k = ltb-true x q u.0 in ((omega arith, k, omega arith), letter-within whole q h xs u.1)

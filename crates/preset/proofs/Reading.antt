@@ -1,4 +1,4 @@
--- How a number_read is read from its first byte on. Assumes nothing.
+-- How a number is read from its first byte on. Assumes nothing.
 use Rattle.std.proofs.Common.{◌≡◌, ℕ, suc, ◌+◌, ◌-◌, ◌*◌, ◌%◌, ◌^◌, ◌<◌, ◌≤◌, List, map, length, get_or, take, drop, Ok, Err, sym, ap, ◌∙◌, arith, length-drop, pow-add, le-ltb, lt-ltb}
 use Rattle.std.proofs.lemmas.Int.Digits.{number_push}
 use Rattle.std.proofs.lemmas.List.{map_more, at_drop_more, take_rest, drop-drop, get_or-drop, nil_from_length}
@@ -17,7 +17,7 @@ value_more bs i h = ap (number_from_digits 128) (map_more (λ b. b % 128) bs i 0
 pub roof_more : (i : ℕ) → 2 ^ (7 * (i + 1)) ≡ 128 * 2 ^ (7 * i)
 roof_more i = let e : 7 * (i + 1) ≡ 7 + 7 * i = omega arith in ap (λ (n : ℕ). 2 ^ n) e ∙ pow-add 2 7 (7 * i)
 
--- the byte at i ends the number_read, or does not
+-- the byte at i ends the number, or does not
 pub tops_end : (bs : List ℕ) (i : ℕ) → i < length bs → get_or bs i 0 < 128 → tops (drop i bs) ≡ 0
 tops_end bs i h k = at_drop_more tops bs i 0 h ∙ rw (lt-ltb (get_or bs i 0) 128 k)
 
@@ -38,7 +38,7 @@ module _ (bs rest : List ℕ) (i : ℕ) (at : rest ≡ drop i bs) (some : 1 ≤ 
   pub tail_shorter : length (take (length rest - 1) (drop 1 rest)) < length bs
   tail_shorter = omega (arith, ap length tail-is, length-drop (i + 1) bs, byte-within)
 
--- what a number_read is, by the bytes that have their top bit set
+-- what a number is, by the bytes that have their top bit set
 module _ (place : ℕ) (bs : List ℕ) where
   pub number-leading : get_or bs 0 0 ≡ 128 → number_read place bs ≡ Err (refused_at Misspelt place)
   number-leading h = grind (arith, nat_tests)

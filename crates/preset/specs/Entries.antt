@@ -19,7 +19,7 @@ abbrev pub zig : ℤ → ℕ
 zig (pos n) = 2 * n
 zig (negsuc n) = 2 * n + 1
 
--- the value that is sent as a number_read
+-- the value that is sent as a number
 abbrev pub zag : ℕ → ℤ
 zag u = cond (u % 2 == 0) (pos (u / 2)) (negsuc (u / 2))
 
@@ -51,7 +51,7 @@ plain_fits (Some end) p = nat_lt p end
 abbrev pub fits : ChargeKind → Entry → Bool
 fits kind e = signed_fits (signed_part kind) e.signed && plain_fits (plain_end kind) e.plain
 
--- a part is read as one number_read, or none
+-- a part is read as one number, or none
 abbrev pub signed_read : Bool → ℕ → List ℕ → Parse ℤ
 signed_read true whole bs = and_then (number_read (whole - length bs) bs) (λ p. Ok (zag p.0, p.1))
 signed_read false whole bs = Ok (pos 0, bs)
@@ -67,7 +67,7 @@ entry kind whole bs =
     and_then (plain_read (plain_end kind) whole s.1) (λ p.
     Ok (record { signed = s.0; plain = p.0 }, p.1)))
 
--- a part is sent as one number_read, or none
+-- a part is sent as one number, or none
 abbrev pub signed_number : Bool → ℤ → Option ℕ
 signed_number true z = Some (zig z)
 signed_number false z = None

@@ -14,7 +14,7 @@ use Rattle.preset.specs.Entries.{letter, entry}
 use Rattle.preset.specs.Fields.{field}
 use Rattle.preset.specs.Numbers.{number_read}
 
--- how many word_count of m letters there are, where the alphabet size and m are in range and the word_count are few
+-- how many words of m letters there are, where the alphabet size and m are in range and the words are few
 abbrev pub item_count : ℕ → ℕ → ℕ → Option ℕ
 item_count most q m = cond (within 1 (suc most) m) (word_count q m) None
 
@@ -35,7 +35,7 @@ kind_read whole bs =
     and_then (number_read (whole - length bs) bs) (λ p.
     ok_or (option_map (λ kind. (kind, p.1)) (kind_of p.0)) (refused_at UnknownKind (whole - length bs)))
 
--- the five numbers of a header; too many word_count are refused at the width
+-- the five numbers of a header; too many words are refused at the width
 abbrev pub head_read : ℕ → List ℕ → Parse PresetHead
 head_read whole bs =
     and_then (kind_read whole bs) (λ kind.

@@ -1,4 +1,4 @@
--- What is known of a preset once it is preset_to_write, before anything is written. Assumes nothing.
+-- What is known of a preset once it is checked, before anything is written. Assumes nothing.
 use Rattle.std.specs.Prelude.{◌≡◌, ℕ, ◌^◌, ◌≤◌, List, length, Ok}
 use Rattle.preset.specs.declared.entry.Entry.{Entry}
 use Rattle.preset.specs.declared.header.Head.{Head}

@@ -6,7 +6,7 @@ use crate::rows::{RingRun, run_meters, run_rings};
 use crate::session;
 use crate::trouble::Trouble;
 use bench::Verdict;
-use cli::{BreaksText, Command, RingDigits, Outcome, read_script};
+use cli::{BreaksText, Command, Outcome, RingDigits, read_script};
 use criterion::MOST_SHOWN;
 use fault::limits::MOST_WORDS;
 use player::Player;
