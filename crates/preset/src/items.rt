@@ -90,7 +90,8 @@ pub(crate) fn fill<T: PresetItem>(
 
 // Each item is allowed; else the index of the first that is not.
 pub(crate) fn check<T: PresetItem>(limits: ItemLimits, items: &[T]) -> Result<(), Fault>
-    ensures { plainly result ≡ each_fits (T.PresetItem.format.fits limits) T.PresetItem.format.stop 0 items.now }
+    ensures { plainly result
+        ≡ each_fits (T.PresetItem.format.fits limits) T.PresetItem.format.stop 0 items.now }
 {
     match items.iter().position(|item| !item.fits(limits)) {
         Some(i) => Err(T::stop().at(i)),

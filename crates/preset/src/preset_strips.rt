@@ -50,7 +50,8 @@ impl PresetStrips {
 
     // The preset that was read, by its head.
     fn loaded(&self, head: Head) -> Loaded<'_>
-        requires { Sound (header_fronts (head_of head) (letters_of self.now) (entries_of self.now)) }
+        requires { Sound
+            (header_fronts (head_of head) (letters_of self.now) (entries_of self.now)) }
         ensures { preset_of result
             ≡ header_fronts (head_of head) (letters_of self.now) (entries_of self.now) }
     {

@@ -86,7 +86,8 @@ pub fn read_preset<'a>(
     letters: &mut [u8],
     entries: &mut [Entry],
 ) -> Result<(Header, &'a [u8]), Fault>
-    ensures answer { parse_seen result ≡ header_and_rest (reading letters.old entries.old input.now) }
+    ensures answer { parse_seen result
+        ≡ header_and_rest (reading letters.old entries.old input.now) }
     ensures letters { let read = reading letters.old entries.old input.now in
         letters.new ≡ strip_after (λ p. p.0.letters) letters.old read }
     ensures entries { let read = reading letters.old entries.old input.now in

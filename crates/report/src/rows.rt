@@ -28,7 +28,8 @@ pub(crate) fn rows_text<C: Sent>(
     crossings: &[C],
 ) -> Result<String, AllocError>
     ensures { IfOk result (λ s. string_bytes s
-        ≡ rows_text (λ i x. row_text (notation_of notation) i (C.sending.entry x)) 0 crossings.now) }
+        ≡ rows_text (λ i x. row_text (notation_of notation) i (C.sending.entry x)) 0
+        crossings.now) }
 {
     let mut text = String::new(alloc);
     for (code, charge) in crossings.iter().enumerate() {
