@@ -1,3 +1,4 @@
+pub mod DigitSums
 pub mod Integers
 pub mod Sums
 pub mod Wraps

@@ -3,12 +3,14 @@ use Rattle.std.specs.Prelude.{ℕ, ◌%◌, ◌^◌, true, ◌&&◌, ℤ, pos, u
 use Rattle.std.proofs.Common.{lit<, pow_pos, of_z, to_z}
 use Rattle.std.specs.Int.{int_rem_euclid, w64}
 use Rattle.charge.specs.Groups.{Group, Kind}
-use Rattle.charge.specs.Ranges.{voices_range, pitch_end, channel_bits}
+use Rattle.charge.specs.Decimals.{value_of, cents_entry}
+use Rattle.charge.specs.Ranges.{voices_range, pitch_end, channel_bits, cents_end}
 use Rattle.charge.specs.Residues.{Below, same_below, decides_below, modular, residue, xors, pairs, same_pair, decides_pair}
 use Rattle.charge.specs.declared.voices.Voices.{Voices}
 use Rattle.charge.specs.declared.pitch.Pitch.{Pitch}
 use Rattle.charge.specs.declared.channels.Channels.{Channels}
 use Rattle.charge.specs.declared.both.Both.{Both}
+use Rattle.charge.specs.declared.cents.Cents.{Cents}
 
 -- whole numbers modulo 2^64
 abbrev pub voice_group : Group
@@ -76,4 +78,17 @@ both = record {
   same = same_pair voices.same pitch.same;
   decides = decides_pair voices.same pitch.same voices.decides pitch.decides;
   entry = λ b. voices.entry b.voices && pitch.entry b.pitch;
+}
+
+-- the residue of the value of four digits
+abbrev pub cents_means : ℕ → Below cents_end
+cents_means digits = residue cents_end (lit< tt) (value_of digits)
+
+abbrev pub cents : Kind Cents
+cents = record {
+  group = modular cents_end (lit< tt);
+  means = λ c. cents_means c.digits;
+  same = same_below;
+  decides = decides_below;
+  entry = λ c. cents_entry c.digits;
 }

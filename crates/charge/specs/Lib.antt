@@ -1,3 +1,4 @@
+pub mod Decimals
 pub mod Groups
 pub mod Kinds
 pub mod Numbers

@@ -13,6 +13,10 @@ voices_range (negsuc n) = nat_lt n voices_end
 abbrev pub pitch_end : ℕ
 pitch_end = 12
 
+-- a number of cents is 0 to 1,199
+abbrev pub cents_end : ℕ
+cents_end = 1200
+
 -- a set of channels is 16 bits
 abbrev pub channel_bits : ℕ
 channel_bits = 16

@@ -14,12 +14,14 @@ pub enum ChargeKind {
     Channels = 2,
     /// A voices charge and a pitch charge: [`Both`](crate::Both).
     Both = 3,
+    /// Cents of an octave, in decimal digits: [`Cents`](crate::Cents).
+    Cents = 4,
 }
 
 /// A number that no kind has.
 #[derive(Clone, Copy, PartialEq, Eq, Debug)]
 pub struct UnknownKind {
-    /// The number, which is above 3.
+    /// The number, which is above 4.
     pub number: u64,
 }
 
@@ -45,6 +47,7 @@ impl TryFrom<u64> for ChargeKind {
             1 => Ok(ChargeKind::Pitch),
             2 => Ok(ChargeKind::Channels),
             3 => Ok(ChargeKind::Both),
+            4 => Ok(ChargeKind::Cents),
             _ => Err(UnknownKind { number }),
         }
     }

@@ -5,12 +5,14 @@ ghost use Rattle.std.specs.Prelude.{◌≡◌, ◌↔◌, IsTrue};
 ghost use Rattle.charge.specs.Groups.{Kind, minus};
 
 mod both;
+mod cents;
 mod channels;
 mod kind;
 mod pitch;
 mod voices;
 
 pub use both::Both;
+pub use cents::{Cents, OCTAVE};
 pub use channels::{CHANNEL_SETS, Channels};
 pub use kind::{ChargeKind, UnknownKind};
 pub use pitch::{PITCH_CLASSES, Pitch};

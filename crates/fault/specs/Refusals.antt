@@ -26,7 +26,7 @@ code_of BadEntry = 15
 abbrev pub reason_of : Stop → List ℕ
 reason_of CutShort = codes "the bytes end where a number is due"
 reason_of Misspelt = codes "a number is misspelt"
-reason_of UnknownKind = codes "the kind of charge is above 3"
+reason_of UnknownKind = codes "the kind of charge is above 4"
 reason_of BadAlphabet = codes "the alphabet size is not 2 to 8"
 reason_of BadWindow = codes "the window is not 1 to 12 letters"
 reason_of BadReach = codes "the reach is not below the window"

@@ -18,7 +18,7 @@ pub enum Stop {
     CutShort = 1,
     /// A number is misspelt: it begins with a zero group, is longer than five bytes, or is too large.
     Misspelt = 2,
-    /// The number of a kind of charge is above 3.
+    /// The number of a kind of charge is above 4.
     UnknownKind = 3,
     /// The alphabet size q is not 2 to 8.
     BadAlphabet = 4,
@@ -61,7 +61,7 @@ impl Stop {
         match self {
             Stop::CutShort => "the bytes end where a number is due",
             Stop::Misspelt => "a number is misspelt",
-            Stop::UnknownKind => "the kind of charge is above 3",
+            Stop::UnknownKind => "the kind of charge is above 4",
             Stop::BadAlphabet => "the alphabet size is not 2 to 8",
             Stop::BadWindow => "the window is not 1 to 12 letters",
             Stop::BadReach => "the reach is not below the window",
