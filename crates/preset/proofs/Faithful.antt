@@ -8,7 +8,7 @@ use Rattle.std.specs.List.{AllByRecursion}
 use Rattle.fault.specs.declared.Stop.{Stop}
 use Rattle.fault.specs.declared.Stop.TheVariants.{BadEntry}
 use Rattle.charge.specs.declared.kind.ChargeKind.{ChargeKind}
-use Rattle.charge.specs.declared.kind.ChargeKind.TheVariants.{Voices, Pitch, Channels, Both}
+use Rattle.charge.specs.declared.kind.ChargeKind.TheVariants.{Voices, Pitch, Channels, Both, Cents}
 use Rattle.charge.specs.Ranges.{voices_range}
 use Rattle.fault.specs.Answers.{and_then}
 use Rattle.preset.specs.declared.entry.Entry.{Entry}
@@ -171,6 +171,7 @@ plain_small Voices = tt
 plain_small Pitch = lit≤ tt
 plain_small Channels = lit≤ tt
 plain_small Both = lit≤ tt
+plain_small Cents = lit≤ tt
 
 -- one part after another
 module _ (kind : ChargeKind) (whole : ℕ) where

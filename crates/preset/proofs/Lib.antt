@@ -1,3 +1,4 @@
+mod CentsSent
 pub mod Faithful
 pub mod Fronts
 pub mod Heads

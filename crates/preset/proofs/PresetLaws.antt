@@ -1,5 +1,5 @@
 -- Reading and writing a preset undo one another. Assumes nothing.
-use Rattle.std.proofs.Common.{◌≡◌, ℕ, suc, ◌+◌, ◌-◌, ◌^◌, ◌<◌, ◌≤◌, Bool, true, false, cond, ltb, leb, List, [], ◌∷◌, ◌++◌, length, Some, None, Ok, Err, Option, Result, sym, refl, ap, ◌∙◌, subst, ap₂, append_assoc, append-nil, arith, ltb-true, lt-ltb, le-leb, leb-true}
+use Rattle.std.proofs.Common.{◌≡◌, ℕ, suc, ◌+◌, ◌-◌, ◌^◌, ◌<◌, ◌≤◌, Bool, true, false, cond, ltb, leb, List, [], ◌∷◌, ◌++◌, length, take, Some, None, Ok, Err, Option, Result, sym, refl, ap, ◌∙◌, subst, ap₂, append_assoc, append-nil, arith, ltb-true, lt-ltb, le-leb, leb-true}
 use Rattle.std.proofs.lemmas.List.{take_all, length-take-le}
 use Rattle.std.proofs.lemmas.Bool.{and_parts}
 use Rattle.std.proofs.lemmas.Bool.Decides.{nat_tests}
@@ -10,18 +10,21 @@ use Rattle.fault.specs.declared.Stop.TheVariants.{UnknownKind, ShortStrip, TooMa
 use Rattle.fault.specs.Limits.{most_window, most_width, most_words, few_words}
 use Rattle.fault.specs.Refusals.{Refusal, refused_at}
 use Rattle.charge.specs.declared.kind.ChargeKind.{ChargeKind}
-use Rattle.charge.specs.declared.kind.ChargeKind.TheVariants.{Voices, Pitch, Channels, Both}
+use Rattle.charge.specs.declared.kind.ChargeKind.TheVariants.{Voices, Pitch, Channels, Both, Cents}
 use Rattle.charge.specs.Numbers.{number_of, kind_of}
 use Rattle.fault.specs.Answers.{and_then}
 use Rattle.fault.specs.Checks.{each_fits, tested}
 use Rattle.preset.specs.declared.entry.Entry.{Entry}
+use Rattle.preset.specs.declared.header.Head.{Head}
 use Rattle.preset.specs.declared.header.Header.{Header}
 use Rattle.preset.specs.Entries.{letter, fits, entry, entry_bytes}
 use Rattle.preset.specs.Fields.{field}
+use Rattle.preset.specs.Heads.{head_of}
 use Rattle.preset.specs.Items.{sent}
 use Rattle.preset.specs.Laws.{Bytes, PresetReadsBack, PresetWritesBack, OneSpelling, PresetSizes}
 use Rattle.preset.specs.Numbers.{number_read, number_limit, spell}
 use Rattle.preset.specs.Presets.{PresetHead, Preset, item_count, kind_read, head_read, letters_read, entries_read, preset, nothing_after, whole_preset}
+use Rattle.preset.specs.Scans.{Writable}
 use Rattle.preset.specs.Sizes.{Sized}
 use Rattle.preset.specs.Sound.{Sound}
 use Rattle.preset.specs.Writes.{size_tests, head_checked, header_fronts, strips_checked, contents_checked, preset_to_write, header_numbers, preset_bytes}
@@ -37,18 +40,21 @@ kind-number n Voices e = grind (arith, nat_tests)
 kind-number n Pitch e = grind (arith, nat_tests)
 kind-number n Channels e = grind (arith, nat_tests)
 kind-number n Both e = grind (arith, nat_tests)
+kind-number n Cents e = grind (arith, nat_tests)
 
 number-kind : (kind : ChargeKind) → kind_of (number_of kind) ≡ Some kind
 number-kind Voices = refl
 number-kind Pitch = refl
 number-kind Channels = refl
 number-kind Both = refl
+number-kind Cents = refl
 
 number_small : (kind : ChargeKind) → number_of kind ≤ number_limit
 number_small Voices = omega arith
 number_small Pitch = omega arith
 number_small Channels = omega arith
 number_small Both = omega arith
+number_small Cents = omega arith
 
 -- where a test passes, what comes after it decides
 then_rest : (b : Bool) (r : Result (Unit {0}) Refusal) (f : Refusal) → cond b r (Err f) ≡ Ok tt → (b ≡ true) × (r ≡ Ok tt)
@@ -120,6 +126,27 @@ sound_from h letters entries p e =
       entries_fit = subst (λ (x : Preset). AllByRecursion (λ y. fits x.head.kind y ≡ true) x.entries) (sym s.1) (fits_from (fits b.0.head.kind) BadEntry 0 b.0.entries d.2);
     } in
     rw (sym is) g
+
+-- a header that passed, and fronts of two strips whose items are allowed, are a preset that may be written
+pub writable : (h : Header) (letters : List ℕ) (entries : List Entry) (head : Head) (letter_count entry_count : ℕ)
+    → letter_count ≡ head.header.q ^ head.header.n → entry_count ≡ head.header.q ^ head.header.k
+    → letter_count ≤ length letters → entry_count ≤ length entries → Ok (head_of head) ≡ head_checked h
+    → Ok tt ≡ contents_checked (record { head = head_of head; letters = take letter_count letters; entries = take entry_count entries })
+    → Writable h letters entries head
+writable h letters entries head ln en le ee lr er passes contents =
+    let same : head.header ≡ h = (head_from h (head_of head) (sym passes)).0 in
+    let lroom : head.header.q ^ head.header.n ≤ length letters = omega (arith, le, lr) in
+    let eroom : head.header.q ^ head.header.k ≤ length entries = omega (arith, ee, er) in
+    let strips : strips_checked (head_of head) letters entries ≡ Ok (header_fronts (head_of head) letters entries) = rw (le-leb _ _ lroom, le-leb _ _ eroom) in
+    let items : contents_checked (header_fronts (head_of head) letters entries) ≡ Ok tt =
+    subst (λ (x : ℕ). contents_checked (record { head = head_of head; letters = take x letters; entries = take (head.header.q ^ head.header.k) entries }) ≡ Ok tt) le
+    (subst (λ (x : ℕ). contents_checked (record { head = head_of head; letters = take ln letters; entries = take x entries }) ≡ Ok tt) ee (sym contents)) in
+    record {
+      is = rw (sym passes, strips, items);
+      same = same;
+      letter_room = rw (sym same) lroom;
+      entry_room = rw (sym same) eroom;
+    }
 
 checked_from : (p : Preset) → Sound p → preset_to_write p.head.header p.letters p.entries ≡ Ok p
 checked_from p g =

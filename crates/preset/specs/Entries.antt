@@ -2,8 +2,8 @@
 use Rattle.std.specs.Prelude.{ℕ, ◌+◌, ◌-◌, ◌*◌, ◌/◌, ◌%◌, ◌^◌, Bool, true, false, cond, ◌&&◌, List, [], ◌++◌, length, ℤ, pos, negsuc, Some, None, Ok, Option, ◌==◌, nat_lt}
 use Rattle.fault.specs.declared.Stop.TheVariants.{BadLetter, BadEntry}
 use Rattle.charge.specs.declared.kind.ChargeKind.{ChargeKind}
-use Rattle.charge.specs.declared.kind.ChargeKind.TheVariants.{Voices, Pitch, Channels, Both}
-use Rattle.charge.specs.Ranges.{voices_range, pitch_end, channel_bits}
+use Rattle.charge.specs.declared.kind.ChargeKind.TheVariants.{Voices, Pitch, Channels, Both, Cents}
+use Rattle.charge.specs.Ranges.{voices_range, pitch_end, channel_bits, cents_end}
 use Rattle.fault.specs.Answers.{and_then}
 use Rattle.preset.specs.declared.entry.Entry.{Entry}
 use Rattle.preset.specs.Answers.{Parse}
@@ -29,6 +29,7 @@ signed_part Voices = true
 signed_part Pitch = false
 signed_part Channels = false
 signed_part Both = true
+signed_part Cents = false
 
 -- what the plain part is below, if a kind has one
 abbrev pub plain_end : ChargeKind → Option ℕ
@@ -36,6 +37,7 @@ plain_end Voices = None
 plain_end Pitch = Some pitch_end
 plain_end Channels = Some (2 ^ channel_bits)
 plain_end Both = Some pitch_end
+plain_end Cents = Some cents_end
 
 -- a part that a kind lacks is 0
 abbrev pub signed_fits : Bool → ℤ → Bool

@@ -9,7 +9,7 @@ use crate::input::Unread;
 use crate::item_limits::ItemLimits;
 use crate::items::{Encode, PresetItem};
 use crate::number::{put_number, spelt_len};
-use charge::{CHANNEL_SETS, ChargeKind, LEAST_VOICES, MOST_VOICES, PITCH_CLASSES};
+use charge::{CHANNEL_SETS, ChargeKind, LEAST_VOICES, MOST_VOICES, OCTAVE, PITCH_CLASSES};
 use fault::{Fault, Stop};
 
 /// A charge of any kind, as it stands in a preset. A part that the kind lacks is 0. C has the same struct.
@@ -18,7 +18,8 @@ use fault::{Fault, Stop};
 pub struct Entry {
     /// The voices, -2^31 to 2^31 - 1 in an entry that is allowed: of the kinds voices and both.
     pub signed: i64,
-    /// The pitch class, below 12, of the kinds pitch and both; the set of channels, below 2^16, of channels.
+    /// The pitch class, below 12, of the kinds pitch and both; the set of channels, below 2^16, of channels; the cents,
+    /// below 1,200, of cents.
     pub plain: u64,
 }
 
@@ -31,6 +32,7 @@ fn has_signed(kind: ChargeKind) -> bool
         ChargeKind::Pitch => false,
         ChargeKind::Channels => false,
         ChargeKind::Both => true,
+        ChargeKind::Cents => false,
     }
 }
 
@@ -43,6 +45,7 @@ fn plain_below(kind: ChargeKind) -> Option<u64>
         ChargeKind::Pitch => Some(PITCH_CLASSES as u64),
         ChargeKind::Channels => Some(CHANNEL_SETS),
         ChargeKind::Both => Some(PITCH_CLASSES as u64),
+        ChargeKind::Cents => Some(OCTAVE as u64),
     }
 }
 

@@ -15,7 +15,7 @@ use fault::{Fault, Stop};
 #[derive(Clone, Copy, PartialEq, Eq, Debug)]
 #[repr(C)]
 pub struct Header {
-    /// The number of the kind of charge: 0 voices, 1 pitch, 2 channels, 3 both.
+    /// The number of the kind of charge: 0 voices, 1 pitch, 2 channels, 3 both, 4 cents.
     pub kind: u64,
     /// The alphabet size, 2 to 8 letters.
     pub q: u64,

@@ -1,13 +1,14 @@
 // Charges of each kind as entries of a preset.
 ghost use Rattle.std.specs.Prelude.{◌≡◌, ◌^◌, if◌then◌else◌, Some, None, nat_lt};
 ghost use Rattle.std.specs.Option.{option_map};
-ghost use Rattle.charge.specs.Kinds.{class_of};
-ghost use Rattle.charge.specs.Ranges.{pitch_end, channel_bits};
+ghost use Rattle.charge.specs.Kinds.{class_of, cents};
+ghost use Rattle.charge.specs.Ranges.{pitch_end, channel_bits, cents_end};
+ghost use Rattle.charge.specs.declared.kind.ChargeKind.TheVariants as kind;
 ghost use Rattle.preset.specs.Entries.{fits};
-ghost use Rattle.preset.specs.Sending.{Sending, voices_sending, pitch_sending, channels_sending, both_sending};
+ghost use Rattle.preset.specs.Sending.{Sending, voices_sending, pitch_sending, channels_sending, both_sending, cents_sent, cents_sending};
 
 use crate::entry::{Entry, allowed};
-use charge::{Both, Channels, Charge, ChargeKind, Pitch, Voices};
+use charge::{Both, Cents, Channels, Charge, ChargeKind, OCTAVE, Pitch, Voices};
 
 /// A kind of charge that presets have. The member `sending` says which kind it is, and which entry a charge is sent as.
 pub trait Sent: Charge {
@@ -44,6 +45,7 @@ macro_rules! by_kind {
             $crate::charge::ChargeKind::Pitch => $crate::by_kind!(@at Pitch $($call)+),
             $crate::charge::ChargeKind::Channels => $crate::by_kind!(@at Channels $($call)+),
             $crate::charge::ChargeKind::Both => $crate::by_kind!(@at Both $($call)+),
+            $crate::charge::ChargeKind::Cents => $crate::by_kind!(@at Cents $($call)+),
         }
     };
 }
@@ -63,6 +65,23 @@ fn channels_of(plain: u64) -> Option<Channels>
 {
     let bits = u16::try_from(plain).ok()?;
     Some(Channels { bits })
+}
+
+// The charge in cents that is sent as a number, if one is.
+#[tactic(auto, using(crate::proofs::CentsSent::sent_digits))]
+fn cents_of(plain: u64) -> Option<Cents>
+    ensures { option_map (λ c. cents_sent c.digits) result
+        ≡ (if nat_lt plain cents_end then Some plain else None) }
+{
+    Cents::new(u16::try_from(plain).ok()?)
+}
+
+// The number that a charge in cents is sent as.
+fn sent_cents(charge: Cents) -> u64
+    ensures { result ≡ cents_sent charge.digits }
+{
+    let octave = if charge.is_entry() { 0 } else { OCTAVE as u64 };
+    octave + charge.value() as u64
 }
 
 impl Sent for Voices {
@@ -148,5 +167,29 @@ impl Sent for Both {
             count: entry.signed,
         };
         Some(Both { voices, pitch })
+    }
+}
+
+impl Sent for Cents {
+    ghost sending = { cents_sending };
+
+    fn kind() -> ChargeKind {
+        ChargeKind::Cents
+    }
+
+    // Allowed exactly where the charge may be an entry: a digit above 9 does not get through as a value.
+    fn to_entry(self) -> Entry
+        ensures entry { result ≡ cents_sending.entry self }
+        ensures allowed { fits kind.Cents result ≡ cents.entry self }
+    {
+        Entry {
+            signed: 0,
+            plain: sent_cents(self),
+        }
+    }
+
+    fn from_entry(entry: Entry) -> Option<Cents> {
+        let entry = allowed(ChargeKind::Cents, entry)?;
+        cents_of(entry.plain)
     }
 }
