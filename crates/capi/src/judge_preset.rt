@@ -8,7 +8,7 @@ ghost use Rattle.capi.specs.Judging.{JudgeTells, JudgedAs};
 
 use crate::answers::{JudgeAnswer, refused};
 use crate::judge_charges::judge_charges;
-use charge::{Both, Channels, Charge, ChargeKind, Pitch, Voices};
+use charge::{Both, Cents, Channels, Charge, ChargeKind, Pitch, Voices};
 use preset::{Entry, Loaded, PresetStrips, STRIP};
 
 fn judge_voices(preset: Loaded<'_>, crossings: &mut [Entry], ring: &mut [u8]) -> JudgeAnswer
@@ -71,6 +71,21 @@ fn judge_both(preset: Loaded<'_>, crossings: &mut [Entry], ring: &mut [u8]) -> J
     )
 }
 
+fn judge_cents(preset: Loaded<'_>, crossings: &mut [Entry], ring: &mut [u8]) -> JudgeAnswer
+    requires { preset.kind ≡ kind.Cents }
+    ensures { JudgedAs kind.Cents (preset_of preset.entry)
+        crossings.old crossings.new ring.old ring.new result }
+{
+    let zero = Cents::zero();
+    judge_charges(
+        preset,
+        &mut [zero; STRIP],
+        &mut [zero; STRIP],
+        crossings,
+        ring,
+    )
+}
+
 // Judges a preset of any kind.
 #[tactic(auto, using(crate::proofs::OfKind::judged_as))]
 fn judge_kind(preset: Loaded<'_>, crossings: &mut [Entry], ring: &mut [u8]) -> JudgeAnswer
@@ -82,6 +97,7 @@ fn judge_kind(preset: Loaded<'_>, crossings: &mut [Entry], ring: &mut [u8]) -> J
         ChargeKind::Pitch => judge_pitch(preset, crossings, ring),
         ChargeKind::Channels => judge_channels(preset, crossings, ring),
         ChargeKind::Both => judge_both(preset, crossings, ring),
+        ChargeKind::Cents => judge_cents(preset, crossings, ring),
     }
 }
 

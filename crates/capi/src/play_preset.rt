@@ -9,7 +9,7 @@ ghost use Rattle.capi.specs.Playing.{PlayTells, PlayedAs};
 use crate::answers::{JudgeAnswer, ScriptAnswer, refused};
 use crate::play_charges::play_charges;
 use crate::script::{Script, ScriptCall};
-use charge::{Both, Channels, Charge, ChargeKind, Pitch, Voices};
+use charge::{Both, Cents, Channels, Charge, ChargeKind, Pitch, Voices};
 use fault::limits::MOST_CELLS;
 use preset::{Loaded, PresetStrips, STRIP};
 
@@ -109,6 +109,30 @@ fn play_both(
     )
 }
 
+fn play_cents(
+    preset: Loaded<'_>,
+    script: Script<'_>,
+    cells: &mut [u8],
+    answers: &mut [ScriptAnswer],
+) -> JudgeAnswer
+    requires { preset.kind ≡ kind.Cents }
+    ensures { PlayedAs kind.Cents (preset_of preset.entry) (script_asks script.entry)
+        cells.old cells.new answers.old answers.new result }
+{
+    let zero = Cents::zero();
+    play_charges(
+        preset,
+        script,
+        &mut [zero; STRIP],
+        &mut [zero; STRIP],
+        &mut [zero; MOST_CELLS],
+        &mut [zero; MOST_CELLS],
+        &mut [zero; MOST_CELLS],
+        cells,
+        answers,
+    )
+}
+
 // Judges a preset of any kind, and plays a script on it where it holds.
 fn play_kind(
     preset: Loaded<'_>,
@@ -124,6 +148,7 @@ fn play_kind(
         ChargeKind::Pitch => play_pitch(preset, script, cells, answers),
         ChargeKind::Channels => play_channels(preset, script, cells, answers),
         ChargeKind::Both => play_both(preset, script, cells, answers),
+        ChargeKind::Cents => play_cents(preset, script, cells, answers),
     }
 }
 

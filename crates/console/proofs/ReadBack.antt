@@ -10,7 +10,7 @@ use Rattle.std.specs.Fmt.{signed_decimal}
 use Rattle.std.specs.List.{AllByRecursion}
 use Rattle.std.specs.Str.{all_ascii_digits}
 use Rattle.charge.specs.declared.kind.ChargeKind.{ChargeKind}
-use Rattle.charge.specs.declared.kind.ChargeKind.TheVariants.{Voices, Pitch, Channels, Both}
+use Rattle.charge.specs.declared.kind.ChargeKind.TheVariants.{Voices, Pitch, Channels, Both, Cents}
 use Rattle.preset.specs.declared.entry.Entry.{Entry}
 use Rattle.preset.specs.declared.header.Header.{Header}
 use Rattle.console.specs.Forms.{letter, halves, entry, entry_text}
@@ -184,6 +184,7 @@ entry-word Both e h = record {
   unbroken = both_of NotBlank digit_not-blank refl refl e h;
   on_line = both_of NotNewline digit_not-newline refl refl e h;
 }
+entry-word Cents e h = decimal-word e.plain h.1
 
 pub entry-reads : (kind : ChargeKind) (e : Entry) → OfKind kind e → entry kind (entry_text kind e) ≡ Some e
 entry-reads Voices e h = rw (signed_number-signed e.signed h.0) (ap (λ (p : ℕ). Some (record { signed = e.signed; plain = p })) (sym h.1))
@@ -193,6 +194,7 @@ entry-reads Both e h =
     let s = signed_of NotColon digit_not_colon refl e.signed h.0 in
     ap₂ halves (leading_of NotColon 58 (decimal e.plain) refl (signed_decimal e.signed) s) (past_of NotColon 58 (decimal e.plain) refl (signed_decimal e.signed) s)
     ∙ rw (signed_number-signed e.signed h.0, number-decimal e.plain h.1)
+entry-reads Cents e h = rw (number-decimal e.plain h.1) (ap (λ (z : ℤ). Some (record { signed = z; plain = e.plain })) (sym h.0))
 
 -- a row of items
 module _ {X : Type 0} (shows : X → List ℕ) where
@@ -305,12 +307,14 @@ kind-word Voices = word_by (kind_text Voices) refl
 kind-word Pitch = word_by (kind_text Pitch) refl
 kind-word Channels = word_by (kind_text Channels) refl
 kind-word Both = word_by (kind_text Both) refl
+kind-word Cents = word_by (kind_text Cents) refl
 
 named_kind-text : (kind : ChargeKind) → named_kind (kind_text kind) ≡ Some kind
 named_kind-text Voices = refl
 named_kind-text Pitch = refl
 named_kind-text Channels = refl
 named_kind-text Both = refl
+named_kind-text Cents = refl
 
 kind-line : (kind : ChargeKind) (rest : List ℕ) → kind_row (record { passed = 0; text = part_text Kind ++ ((32 ∷ kind_text kind) ++ (10 ∷ rest)) }) ≡ Ok (record { value = kind; line = 1; after = record { passed = 0; text = 10 ∷ rest } })
 unfolding kind_row

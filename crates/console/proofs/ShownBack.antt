@@ -4,7 +4,7 @@ use Rattle.std.proofs.lemmas.Bool.{and_parts}
 use Rattle.std.specs.List.{AllByRecursion}
 use Rattle.charge.specs.Ranges.{voices_range}
 use Rattle.charge.specs.declared.kind.ChargeKind.{ChargeKind}
-use Rattle.charge.specs.declared.kind.ChargeKind.TheVariants.{Voices, Pitch, Channels, Both}
+use Rattle.charge.specs.declared.kind.ChargeKind.TheVariants.{Voices, Pitch, Channels, Both, Cents}
 use Rattle.preset.specs.declared.entry.Entry.{Entry}
 use Rattle.preset.specs.Entries.{fits, signed_fits}
 use Rattle.preset.specs.Laws.{Bytes}
@@ -33,6 +33,7 @@ of-kind Voices e f = let b = and_parts _ _ f in (signed_small e.signed b.0, eqb-
 of-kind Pitch e f = let b = and_parts _ _ f in let h = ltb-true e.plain 12 b.1 in (signed-zero e.signed b.0, omega arith)
 of-kind Channels e f = let b = and_parts _ _ f in let h = ltb-true e.plain (2 ^ 16) b.1 in (signed-zero e.signed b.0, omega arith)
 of-kind Both e f = let b = and_parts _ _ f in let h = ltb-true e.plain 12 b.1 in (signed_small e.signed b.0, omega arith)
+of-kind Cents e f = let b = and_parts _ _ f in let h = ltb-true e.plain 1200 b.1 in (signed-zero e.signed b.0, omega arith)
 
 entries_of-kind : (kind : ChargeKind) (es : List Entry) → AllByRecursion (λ e. fits kind e ≡ true) es → AllByRecursion (OfKind kind) es
 entries_of-kind kind [] u = tt

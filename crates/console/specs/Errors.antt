@@ -11,7 +11,7 @@ use Rattle.console.specs.declared.failure.ShowError.TheVariants as no
 
 abbrev pub expected_text : Expected → List ℕ
 expected_text (Name part) = codes "the word " ++ part_text part
-expected_text Kind = codes "voices, pitch, channels or both"
+expected_text Kind = codes "voices, pitch, channels, both or cents"
 expected_text Number = codes "a number"
 expected_text Letter = codes "a letter from 0 to 255"
 expected_text Entry = codes "an entry of the kind"

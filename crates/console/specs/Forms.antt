@@ -2,7 +2,7 @@
 use Rattle.std.specs.Prelude.{ℕ, cond, List, [], ◌∷◌, ◌++◌, ℤ, pos, Some, None, decimal, Option, nat_lt}
 use Rattle.std.specs.Fmt.{signed_decimal}
 use Rattle.charge.specs.declared.kind.ChargeKind.{ChargeKind}
-use Rattle.charge.specs.declared.kind.ChargeKind.TheVariants.{Voices, Pitch, Channels, Both}
+use Rattle.charge.specs.declared.kind.ChargeKind.TheVariants.{Voices, Pitch, Channels, Both, Cents}
 use Rattle.preset.specs.declared.entry.Entry.{Entry}
 use Rattle.console.specs.Numbers.{number, signed_number}
 use Rattle.console.specs.Cutting.{leading, past}
@@ -41,12 +41,14 @@ entry Voices w = paired (signed_number w) (Some 0)
 entry Pitch w = paired (Some (pos 0)) (number w)
 entry Channels w = paired (Some (pos 0)) (number w)
 entry Both w = halves (leading NotColon w) (past NotColon w)
+entry Cents w = paired (Some (pos 0)) (number w)
 
 abbrev pub entry_text : ChargeKind → Entry → List ℕ
 entry_text Voices e = signed_decimal e.signed
 entry_text Pitch e = decimal e.plain
 entry_text Channels e = decimal e.plain
 entry_text Both e = signed_decimal e.signed ++ (58 ∷ decimal e.plain)
+entry_text Cents e = decimal e.plain
 
 abbrev pub letter_form : Form ℕ
 letter_form = record { reads = λ _. letter; shows = λ _. decimal; expected = expected.Letter }

@@ -16,10 +16,11 @@ kind_text kind.Voices = codes "voices"
 kind_text kind.Pitch = codes "pitch"
 kind_text kind.Channels = codes "channels"
 kind_text kind.Both = codes "both"
+kind_text kind.Cents = codes "cents"
 
 -- the kind of a name
 abbrev pub named_kind : List ℕ → Option ChargeKind
-named_kind = named kind_text (kind.Voices ∷ kind.Pitch ∷ kind.Channels ∷ kind.Both ∷ [])
+named_kind = named kind_text (kind.Voices ∷ kind.Pitch ∷ kind.Channels ∷ kind.Both ∷ kind.Cents ∷ [])
 
 -- each part stands on a line of its own, which begins with the part's name
 abbrev pub part_text : PagePart → List ℕ

@@ -3,7 +3,7 @@ use Rattle.std.specs.Prelude.{◌≡◌, ℕ, ◌<◌, List, pos, Ok, unsigned_a
 use Rattle.std.specs.List.{AllByRecursion}
 use Rattle.charge.specs.Numbers.{number_of}
 use Rattle.charge.specs.declared.kind.ChargeKind.{ChargeKind}
-use Rattle.charge.specs.declared.kind.ChargeKind.TheVariants.{Voices, Pitch, Channels, Both}
+use Rattle.charge.specs.declared.kind.ChargeKind.TheVariants.{Voices, Pitch, Channels, Both, Cents}
 use Rattle.preset.specs.declared.entry.Entry.{Entry}
 use Rattle.preset.specs.declared.header.Header.{Header}
 use Rattle.console.specs.Grammar.{parsed}
@@ -16,6 +16,7 @@ OfKind Voices e = (unsigned_abs e.signed < number_end) × (e.plain ≡ 0)
 OfKind Pitch e = (e.signed ≡ pos 0) × (e.plain < number_end)
 OfKind Channels e = (e.signed ≡ pos 0) × (e.plain < number_end)
 OfKind Both e = (unsigned_abs e.signed < number_end) × (e.plain < number_end)
+OfKind Cents e = (e.signed ≡ pos 0) × (e.plain < number_end)
 
 -- A preset that a page can hold.
 pub record Holdable (kind : ChargeKind) (header : Header) (letters : List ℕ) (entries : List Entry) (bytes : ℕ) : Type 0 where

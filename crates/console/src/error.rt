@@ -37,7 +37,7 @@ impl fmt::Display for Expected {
                 let name = part.name();
                 write!(f, "the word {name}")
             }
-            Expected::Kind => f.write_str("voices, pitch, channels or both"),
+            Expected::Kind => f.write_str("voices, pitch, channels, both or cents"),
             Expected::Number => f.write_str("a number"),
             Expected::Letter => f.write_str("a letter from 0 to 255"),
             Expected::Entry => f.write_str("an entry of the kind"),

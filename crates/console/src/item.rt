@@ -66,8 +66,8 @@ fn read_both(word: &[u8]) -> Option<Entry>
     }
 }
 
-/// An entry of a kind of charge, which is shown as a word of a page: `-3` in voices, `7` in pitch or channels, `-3:7`
-/// in both. A part that the kind does not have is not shown.
+/// An entry of a kind of charge, which is shown as a word of a page: `-3` in voices, `7` in pitch, channels or cents,
+/// `-3:7` in both. A part that the kind does not have is not shown.
 #[derive(Clone, Copy, PartialEq, Eq, Debug)]
 pub struct EntryWord {
     /// The kind of charge.
@@ -83,7 +83,7 @@ impl fmt::Display for EntryWord {
         let Entry { signed, plain } = self.entry;
         match self.kind {
             ChargeKind::Voices => write!(f, "{signed}"),
-            ChargeKind::Pitch | ChargeKind::Channels => write!(f, "{plain}"),
+            ChargeKind::Pitch | ChargeKind::Channels | ChargeKind::Cents => write!(f, "{plain}"),
             ChargeKind::Both => write!(f, "{signed}:{plain}"),
         }
     }
@@ -95,7 +95,9 @@ impl PageItem for Entry {
     fn from_word(kind: ChargeKind, word: &[u8]) -> Option<Entry> {
         match kind {
             ChargeKind::Voices => pair(read_signed(word), Some(0)),
-            ChargeKind::Pitch | ChargeKind::Channels => pair(Some(0), read_number(word)),
+            ChargeKind::Pitch | ChargeKind::Channels | ChargeKind::Cents => {
+                pair(Some(0), read_number(word))
+            }
             ChargeKind::Both => read_both(word),
         }
     }

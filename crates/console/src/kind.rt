@@ -5,11 +5,12 @@ ghost use Rattle.console.specs.Names.{kind_text, named_kind};
 use crate::names::{Named, find_named};
 use charge::ChargeKind;
 
-const KINDS: [ChargeKind; 4] = [
+const KINDS: [ChargeKind; 5] = [
     ChargeKind::Voices,
     ChargeKind::Pitch,
     ChargeKind::Channels,
     ChargeKind::Both,
+    ChargeKind::Cents,
 ];
 
 impl Named for ChargeKind {
@@ -21,11 +22,12 @@ impl Named for ChargeKind {
             ChargeKind::Pitch => "pitch",
             ChargeKind::Channels => "channels",
             ChargeKind::Both => "both",
+            ChargeKind::Cents => "cents",
         }
     }
 }
 
-/// The name of a kind of charge: `voices`, `pitch`, `channels` or `both`.
+/// The name of a kind of charge: `voices`, `pitch`, `channels`, `both` or `cents`.
 pub fn kind_name(kind: ChargeKind) -> &'static str
     ensures { result.now ≡ kind_text kind }
 {

@@ -15,3 +15,6 @@ returns-in-Channels c = played_as c.args.preset.kind kind.Channels (preset_of c.
 
 pub returns-in-Both : goal.returns-in-Both
 returns-in-Both c = played_as c.args.preset.kind kind.Both (preset_of c.args.preset) (script_asks c.args.script) c.args.cells.now c.play_both.new.cells c.args.answers.now c.play_both.new.answers c.play_both.result c.in-Both.is c.play_both.ensures
+
+pub returns-in-Cents : goal.returns-in-Cents
+returns-in-Cents c = played_as c.args.preset.kind kind.Cents (preset_of c.args.preset) (script_asks c.args.script) c.args.cells.now c.play_cents.new.cells c.args.answers.now c.play_cents.new.answers c.play_cents.result c.in-Cents.is c.play_cents.ensures
