@@ -3,18 +3,20 @@ use Rattle.std.specs.Prelude.{ℕ, ◌/◌, ◌%◌, ◌^◌, List, [], ◌∷�
 use Rattle.std.proofs.Common.{lit<}
 use Rattle.fault.specs.Refusals.{Refusal}
 use Rattle.charge.specs.Groups.{Group, minus}
-use Rattle.charge.specs.Kinds.{voices, pitch, channels, pitch_means, channel_means}
-use Rattle.charge.specs.declared.kind.ChargeKind.TheVariants.{Voices}
-use Rattle.charge.specs.Ranges.{pitch_end, channel_bits}
+use Rattle.charge.specs.Kinds.{voices, pitch, channels, cents, pitch_means, channel_means}
+use Rattle.charge.specs.declared.kind.ChargeKind.TheVariants.{Voices, Cents}
+use Rattle.charge.specs.Ranges.{pitch_end, channel_bits, cents_end}
 use Rattle.charge.specs.Residues.{Below, residue}
 use Rattle.automaton.specs.Making.{table_rule, pattern_density}
 use Rattle.automaton.specs.Meanings.{Local, Weights, next, total}
 use Rattle.automaton.specs.Words.{code, table}
 use Rattle.bench.specs.Benches.{Bench, bench_of}
 use Rattle.bench.specs.Verdicts.{Judgement, breaks}
+use Rattle.preset.specs.declared.entry.Entry.{Entry}
+use Rattle.preset.specs.declared.header.Header.{Header}
 use Rattle.preset.specs.Presets.{Preset}
 
--- what numbers of voices, pitch classes and sets of channels mean
+-- what numbers of voices, pitch classes, sets of channels and cents mean
 abbrev pub Count : Type 0
 Count = Below (2 ^ 64)
 
@@ -26,6 +28,9 @@ class n = pitch_means n
 
 abbrev pub channel_set : ℕ → Below (2 ^ channel_bits)
 channel_set n = channel_means n
+
+abbrev pub cent : ℕ → Below cents_end
+cent n = residue cents_end (lit< tt) n
 
 -- such meanings as numbers
 abbrev pub residues : {n : ℕ} → List (Below n) → List ℕ
@@ -53,7 +58,7 @@ abbrev pub letter_count : Weights Count
 letter_count = weighing (count 0) (count 1)
 
 -- benches that are judged: a rule under the density that counts letters, rule 150 in channels where the letter 1 weighs
--- channel set 1, and every answer 1 in pitch where the letter 1 weighs 4
+-- channel set 1, and every answer 1 in pitch where the letter 1 weighs 4, and in cents where it weighs 400
 abbrev pub counting : Local → Bench voices
 counting rule = bench_of voices rule letter_count
 
@@ -62,6 +67,9 @@ bench_150 = bench_of channels (elementary 150) (weighing (channel_set 0) (channe
 
 abbrev pub bench_of_ones : Bench pitch
 bench_of_ones = bench_of pitch ones (weighing (class 0) (class 4))
+
+abbrev pub ones_in_cents : Bench cents
+ones_in_cents = bench_of cents ones (weighing (cent 0) (cent 400))
 
 -- what a ring gains in a step: its total afterwards less its total before
 abbrev pub gain : (G : Group) → Local → Weights G.Carrier → List ℕ → G.Carrier
@@ -91,4 +99,22 @@ preset_184 = record {
   head = record { kind = Voices; header = record { kind = 0; q = 2; n = 3; l = 1; k = 1 } };
   letters = 0 ∷ 0 ∷ 0 ∷ 1 ∷ 1 ∷ 1 ∷ 0 ∷ 1 ∷ [];
   entries = record { signed = pos 0; plain = 0 } ∷ record { signed = pos 1; plain = 0 } ∷ [];
+}
+
+-- The parts of a preset in cents, where the letter 1 weighs so many; its bytes, where these are those of that number;
+-- and the preset.
+abbrev pub header_in_cents : Header
+header_in_cents = record { kind = 4; q = 2; n = 1; l = 0; k = 1 }
+
+abbrev pub entries_in_cents : ℕ → List Entry
+entries_in_cents one = record { signed = pos 0; plain = 0 } ∷ record { signed = pos 0; plain = one } ∷ []
+
+abbrev pub bytes_in_cents : List ℕ → List ℕ
+bytes_in_cents number = 4 ∷ 2 ∷ 1 ∷ 0 ∷ 1 ∷ 0 ∷ 1 ∷ 0 ∷ number
+
+abbrev pub preset_in_cents : ℕ → Preset
+preset_in_cents one = record {
+  head = record { kind = Cents; header = header_in_cents };
+  letters = 0 ∷ 1 ∷ [];
+  entries = entries_in_cents one;
 }

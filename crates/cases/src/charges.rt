@@ -1,5 +1,5 @@
 // Charges added, turned and compared.
-use charge::{Both, Channels, Charge, Pitch, Voices, difference};
+use charge::{Both, Cents, Channels, Charge, Pitch, Voices, difference};
 
 #[test]
 fn voices_wrap(rt: HostRuntime) {
@@ -58,4 +58,27 @@ fn both_parts_by_themselves(rt: HostRuntime) {
     assert!(rt; none.same(Both::zero()));
     assert_eq!(rt; chord.plus(chord).voices.count, 6);
     assert_eq!(rt; chord.plus(chord).pitch.class(), 10);
+}
+
+#[test]
+fn cents_carry_and_borrow(rt: HostRuntime) {
+    let sharp = Cents { digits: 0x0950 };
+    assert_eq!(rt; sharp.plus(Cents { digits: 0x0099 }).digits, 0x1049);
+    assert_eq!(rt; sharp.plus(Cents { digits: 0x0250 }).digits, 0);
+    assert_eq!(rt; sharp.opposite().digits, 0x0250);
+    assert_eq!(rt; Cents::zero().opposite().digits, 0);
+    assert!(rt; Cents { digits: 0x1199 }.is_entry());
+    assert!(rt; !Cents { digits: 0x1200 }.is_entry());
+}
+
+// Digits above 9, and values from an octave on, mean what they stand for modulo 1,200.
+#[test]
+fn cents_of_any_digits(rt: HostRuntime) {
+    let odd = Cents { digits: 0xa00f };
+    assert!(rt; !odd.is_entry());
+    assert_eq!(rt; odd.value(), 10_015);
+    assert!(rt; odd.same(Cents { digits: 0x0415 }));
+    assert_eq!(rt; odd.plus(Cents::zero()).digits, 0x0415);
+    assert_eq!(rt; Cents::new(415), Some(Cents { digits: 0x0415 }));
+    assert!(rt; Cents::new(1_200).is_none());
 }

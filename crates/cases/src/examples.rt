@@ -1,7 +1,8 @@
 // Worked examples that are proved.
-ghost use Rattle.std.specs.Prelude.{◌≡◌, ℕ, [], ◌∷◌, true, pos, Some, None, Ok, Err};
-ghost use Rattle.fault.specs.declared.Stop.TheVariants.{CutShort, Misspelt};
+ghost use Rattle.std.specs.Prelude.{◌≡◌, ℕ, [], ◌∷◌, true, false, replicate, pos, Some, None, Ok, Err};
+ghost use Rattle.fault.specs.declared.Stop.TheVariants.{CutShort, Misspelt, UnknownKind, BadEntry};
 ghost use Rattle.fault.specs.Refusals.{refused_at};
+ghost use Rattle.charge.specs.Decimals.{cents_entry, packed, cents_sum, cents_opposite};
 ghost use Rattle.charge.specs.Kinds.{voices, pitch};
 ghost use Rattle.criterion.specs.Balance.{ring_a};
 ghost use Rattle.criterion.specs.Search.{padding, sums_to_zero};
@@ -10,8 +11,10 @@ ghost use Rattle.bench.specs.Laws.{integers};
 ghost use Rattle.bench.specs.Verdicts.{holds, agree, judge_found, judge_crossings, judging, compare_crossings, comparing};
 ghost use Rattle.preset.specs.Numbers.{number_read, spell};
 ghost use Rattle.preset.specs.Presets.{whole_preset};
+ghost use Rattle.preset.specs.Writes.{preset_to_write, writing};
 ghost use Rattle.cases.specs.Examples.{count, class, residues, elementary, ones, flip, weighing, counting, bench_150, bench_of_ones};
 ghost use Rattle.cases.specs.Examples.{gain, broken_at, pattern_10, pattern_01, bytes_184, preset_184};
+ghost use Rattle.cases.specs.Examples.{cent, ones_in_cents, header_in_cents, entries_in_cents, bytes_in_cents, preset_in_cents};
 ghost use Rattle.cases.specs.WorkedLog.{WorkedLog, session, counts};
 
 /// The worked examples that are proved: each clause is one, about the very definitions that the contracts of the calls
@@ -52,6 +55,26 @@ pub fn worked_examples()
         ≡ true }
     ensures ones_in_pitch { judging bench_of_ones 2 3 ≡ broken_at 0 2 (class 0) (class 8) }
     ensures ring_of_ones { judge_found bench_of_ones 2 3 ≡ Ok (Some (0, 0 ∷ 0 ∷ [])) }
+    // Cents, digit by digit: 1,199 and 1 are 0, 999 and 1 are 1,000, the opposite of 1 is 1,199 and that of 0 is 0; the
+    // digits A, 0, 0, 0 are no entry.
+    ensures octave { cents_sum (packed 1 1 9 9) (packed 0 0 0 1) ≡ packed 0 0 0 0 }
+    ensures thousand { cents_sum (packed 0 9 9 9) (packed 0 0 0 1) ≡ packed 1 0 0 0 }
+    ensures opposite_of_1 { cents_opposite (packed 0 0 0 1) ≡ packed 1 1 9 9 }
+    ensures opposite_of_0 { cents_opposite (packed 0 0 0 0) ≡ packed 0 0 0 0 }
+    ensures no_digit { cents_entry (packed 10 0 0 0) ≡ false }
+    // A preset in cents with the entry 1,199, which is 89 2F, is read and written; 1,200, which is 89 30, is refused at
+    // its place, and so is the kind 5.
+    ensures read_1199 { whole_preset (bytes_in_cents (137 ∷ 47 ∷ [])) ≡ Ok (preset_in_cents 1199) }
+    ensures written_1199 { writing header_in_cents (0 ∷ 1 ∷ []) (entries_in_cents 1199)
+        (replicate 10 0) ≡ Ok (bytes_in_cents (137 ∷ 47 ∷ [])) }
+    ensures read_1200 { whole_preset (bytes_in_cents (137 ∷ 48 ∷ []))
+        ≡ Err (refused_at BadEntry 8) }
+    ensures written_1200 { preset_to_write header_in_cents (0 ∷ 1 ∷ []) (entries_in_cents 1200)
+        ≡ Err (refused_at BadEntry 1) }
+    ensures kind_5 { whole_preset (5 ∷ []) ≡ Err (refused_at UnknownKind 0) }
+    // Every answer 1, in cents, where the letter 1 weighs 400: the ring 000 gains 1,200, which is 0, so 00 is shown.
+    ensures ones_in_cents { judging ones_in_cents 2 3 ≡ broken_at 0 2 (cent 0) (cent 800) }
+    ensures ring_in_cents { judge_found ones_in_cents 2 3 ≡ Ok (Some (0, 0 ∷ 0 ∷ [])) }
     // A window of one letter, where each letter becomes the other.
     ensures flipping { judging (counting flip) 1 1 ≡ broken_at 0 1 (count 0) (count 1) }
     ensures ring_of_flip { judge_found (counting flip) 1 1 ≡ Ok (Some (0, 0 ∷ [])) }

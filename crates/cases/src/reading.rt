@@ -73,7 +73,7 @@ fn header_refusals(rt: HostRuntime) {
     assert_eq!(rt; refused(&[0, 2, 0x81]), Some((1, 2)));
     assert_eq!(rt; refused(&[0, 2]), Some((1, 2)));
     assert_eq!(rt; refused(&[0, 2, 3, 0x80]), Some((2, 3)));
-    assert_eq!(rt; refused(&[4, 2, 3]), Some((3, 0)));
+    assert_eq!(rt; refused(&[5, 2, 3]), Some((3, 0)));
     assert_eq!(rt; refused(&[0, 9]), Some((4, 1)));
     assert_eq!(rt; refused(&[0, 2, 13]), Some((5, 2)));
     assert_eq!(rt; refused(&[0, 2, 3, 3]), Some((6, 3)));

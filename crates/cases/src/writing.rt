@@ -71,7 +71,7 @@ fn header(kind: u64, q: u64, n: u64, l: u64, k: u64) -> Header {
 fn header_refusals(rt: HostRuntime) {
     let mut out = [9u8; 16];
     let refused = [
-        (header(4, 9, 3, 1, 1), 3),
+        (header(5, 9, 3, 1, 1), 3),
         (header(0, 9, 13, 1, 1), 4),
         (header(0, 2, 13, 13, 1), 5),
         (header(0, 2, 3, 3, 13), 6),

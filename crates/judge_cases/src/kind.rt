@@ -1,10 +1,10 @@
 // The kinds of charge, made of two numbers and printed.
-use charge::{Both, Channels, Charge, Pitch, Voices};
+use charge::{Both, Cents, Channels, Charge, Pitch, Voices};
 use console::EntryWord;
 use preset::Sent;
 
 pub trait Tried: Sent {
-    // The charge of a signed and a plain part, which may be no entry.
+    // The charge of a signed and a plain part, which may be no entry. The plain part of cents is their sixteen bits.
     fn from_parts(signed: i64, plain: u64) -> Self;
 
     // What strips are filled with before a call.
@@ -69,5 +69,17 @@ impl Tried for Both {
             voices: Voices { count: 77 },
             pitch: pitch(7),
         }
+    }
+}
+
+impl Tried for Cents {
+    fn from_parts(signed: i64, plain: u64) -> Cents {
+        Cents {
+            digits: u16::try_from(plain).unwrap_or(0),
+        }
+    }
+
+    fn mark() -> Cents {
+        Cents { digits: 0x0077 }
     }
 }

@@ -7,7 +7,7 @@ use crate::strips::CaseStrips;
 use anyhow::{anyhow, bail};
 use automaton::{Density, PatternDensity, Rule, SumRule, TableDensity, TableRule};
 use bench::Draft;
-use charge::{Both, Channels, ChargeKind, Pitch, Voices};
+use charge::{Both, Cents, Channels, ChargeKind, Pitch, Voices};
 use fault::Fault;
 use std::alloc::{AllocError, Global};
 use std::io::Write;
@@ -128,6 +128,7 @@ pub(crate) fn write_case<W: Write>(alloc: Global, out: &mut W, text: &str) -> an
         Ok(ChargeKind::Pitch) => with_kind::<Pitch, W>(alloc, out, case),
         Ok(ChargeKind::Channels) => with_kind::<Channels, W>(alloc, out, case),
         Ok(ChargeKind::Both) => with_kind::<Both, W>(alloc, out, case),
-        Err(_) => bail!("a kind is 0 to 3"),
+        Ok(ChargeKind::Cents) => with_kind::<Cents, W>(alloc, out, case),
+        Err(_) => bail!("a kind is 0 to 4"),
     }
 }

@@ -1,7 +1,8 @@
 // The kinds of charge, by two numbers each.
-use charge::{Both, Channels, Charge, PITCH_CLASSES, Pitch, Voices};
+use charge::{Both, Cents, Channels, Charge, PITCH_CLASSES, Pitch, Voices};
 
-// A charge has a signed and a plain part. A part that its kind lacks is ignored and given as 0.
+// A charge has a signed and a plain part. A part that its kind lacks is ignored and given as 0. The plain part of cents
+// is their sixteen bits.
 pub trait Played: Charge {
     fn from_parts(signed: i64, plain: u16) -> Self;
 
@@ -49,5 +50,15 @@ impl Played for Both {
 
     fn parts(self) -> (i64, u16) {
         (self.voices.count, u16::from(self.pitch.class()))
+    }
+}
+
+impl Played for Cents {
+    fn from_parts(_signed: i64, plain: u16) -> Cents {
+        Cents { digits: plain }
+    }
+
+    fn parts(self) -> (i64, u16) {
+        (0, self.digits)
     }
 }
