@@ -1,8 +1,12 @@
 # Rules and densities for the judge cases, drawn at random or made so that a total
 # is kept: rules as lists of letters, densities as lists of charges.
 
-from preset_format import BOTH, CHANNELS, HIGHEST_CHANNELS, PITCH, VOICES
-from ring_judge import HIGHEST_VOICES, KINDS, LOWEST_VOICES, PITCH_CLASSES, words
+from preset_format import (
+    BOTH, CENTS, CHANNELS, HIGHEST_CENTS, HIGHEST_CHANNELS, PITCH, VOICES,
+)
+from ring_judge import (
+    HIGHEST_VOICES, KINDS, LOWEST_VOICES, OCTAVE, PITCH_CLASSES, cents_charge, words,
+)
 
 
 # Rules, as lists of letters
@@ -64,6 +68,10 @@ def linear_table(chance, q, n):
 # Densities, as lists of charges
 
 
+# Cents at the ends, and where the most digits carry.
+CENTS_EDGES = [0, 1, 999, 1000, HIGHEST_CENTS]
+
+
 def multiple(kind, times, charge):
     return KINDS[kind].sum([charge] * times)
 
@@ -81,6 +89,10 @@ def random_charge(chance, kind):
         if chance.happens(6):
             return chance.between(0, HIGHEST_CHANNELS)
         return chance.below(8)
+    if kind == CENTS:
+        if chance.happens(40):
+            return cents_charge(chance.pick(CENTS_EDGES))
+        return cents_charge(chance.below(OCTAVE))
     return signed, chance.below(PITCH_CLASSES)
 
 
@@ -95,7 +107,8 @@ def small_charge(chance, kind):
 
 def two_charge(chance, kind):
     """One of two charges, so that many sums are zero where a kind admits it."""
-    pairs = {VOICES: (0, 1), PITCH: (0, 6), CHANNELS: (0, 1), BOTH: ((0, 0), (0, 6))}
+    pairs = {VOICES: (0, 1), PITCH: (0, 6), CHANNELS: (0, 1), BOTH: ((0, 0), (0, 6)),
+             CENTS: (0, cents_charge(600))}
     return chance.pick(pairs[kind])
 
 
@@ -134,6 +147,7 @@ def turning_unit(chance, kind, q):
         PITCH: [c for c in range(PITCH_CLASSES) if c * q % PITCH_CLASSES == 0],
         CHANNELS: [0] if q % 2 else range(8),
         BOTH: [(0, c) for c in range(PITCH_CLASSES) if c * q % PITCH_CLASSES == 0],
+        CENTS: [cents_charge(c) for c in range(OCTAVE) if c * q % OCTAVE == 0],
     }
     return chance.pick(list(units[kind]))
 

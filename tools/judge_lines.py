@@ -9,7 +9,8 @@
 #   a rule:    FORM Q N L COUNT and COUNT letters; FORM 0 table, 1 sum
 #   a density: FORM Q K COUNT and then, for FORM 0 (table), COUNT entries, and for
 #              FORM 1 (pattern), COUNT letters and one entry
-#   an entry:  SIGNED PLAIN; the part that the kind lacks is 0
+#   an entry:  SIGNED PLAIN; the part that the kind lacks is 0, and a charge in cents
+#              is its sixteen bits as a number
 #   a ring:    COUNT and COUNT letters
 #
 # A result line is one of
@@ -19,7 +20,8 @@
 #   holds J, breaks WORD RING BEFORE AFTER J
 #   agree J, differ WORD RING FIRST SECOND J
 #   next RING, total CHARGE
-# Words and rings are digits with nothing between, and J is charges between commas.
+# Words and rings are digits with nothing between, and J is charges between commas. A
+# charge is as in a preset's text: one in cents is its value.
 # `clean` ends each line whose call writes into strips: what was in them past the
 # part that is written is still there.
 

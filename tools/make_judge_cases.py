@@ -15,19 +15,20 @@ sys.dont_write_bytecode = True
 
 from case_files import Chance, write_lines
 from judge_draws import (
-    by_words, changed, constant_density, difference_density, invariant_density,
-    letter_density, linear_table, number_letters, permuted_table, plus_all, random_charge,
-    random_density, random_letters, random_permutation, random_table, shift_table,
-    small_charge, traffic_table, turning_unit, two_charge,
+    CENTS_EDGES, by_words, changed, constant_density, difference_density,
+    invariant_density, letter_density, linear_table, number_letters, permuted_table,
+    plus_all, random_charge, random_density, random_letters, random_permutation,
+    random_table, shift_table, small_charge, traffic_table, turning_unit, two_charge,
 )
 from judge_lines import (
     COMPARE, JUDGE, NEXT_RING, PATTERN, SUM, TABLE, TOTAL, line, pattern_part, read_case,
     result_line, ring_part, rule_part, table_part,
 )
-from preset_format import BOTH, CHANNELS, LARGEST_SIZE, PITCH, VOICES
+from preset_format import BOTH, CENTS, CHANNELS, LARGEST_SIZE, PITCH, VOICES
 from ring_judge import (
-    HIGHEST_VOICES, KINDS, LONGEST_RING, LOWEST_VOICES, PITCH_CLASSES, Kind, Label,
-    failing_word, label_sum, ring_total, rule_label, step, two_label, words,
+    HIGHEST_VOICES, KINDS, LONGEST_RING, LOWEST_VOICES, OCTAVE, PITCH_CLASSES, Kind, Label,
+    cents_charge, cents_value, failing_word, label_sum, ring_total, rule_label, step,
+    two_label, words,
 )
 
 CASES_FOLDER = Path(__file__).resolve().parent.parent / "crates" / "judge_cases"
@@ -94,8 +95,9 @@ def elementary_part(number):
 
 def elementary_rules():
     lines = []
-    for kind in (VOICES, CHANNELS):
-        density = table_part(kind, 2, 1, [0, 1])
+    # In cents a one weighs a third of an octave.
+    for kind, one in ((VOICES, 1), (CHANNELS, 1), (CENTS, cents_charge(400))):
+        density = table_part(kind, 2, 1, [0, one])
         lines += [line(JUDGE, kind, 4, 5, elementary_part(number), density)
                   for number in range(256)]
     return lines
@@ -131,6 +133,8 @@ def worked_examples():
                       table_part(CHANNELS, 2, 1, [0, 1])))
     lines.append(line(JUDGE, PITCH, 2, 3, rule_part(TABLE, 2, 2, 0, [1] * 4),
                       table_part(PITCH, 2, 1, [0, 4])))
+    lines.append(line(JUDGE, CENTS, 2, 3, rule_part(TABLE, 2, 2, 0, [1] * 4),
+                      table_part(CENTS, 2, 1, [0, cents_charge(400)])))
     lines.append(line(JUDGE, VOICES, 1, 1, rule_part(TABLE, 2, 1, 0, [1, 0]), voices))
     lines.append(line(COMPARE, VOICES, 2, 3, pattern_part(VOICES, 2, 2, [1, 0], 1),
                       pattern_part(VOICES, 2, 2, [0, 1], 1)))
@@ -166,7 +170,7 @@ def any_benches(chance):
     """Rules and densities that have nothing to do with each other."""
     lines = []
     for _ in range(600):
-        kind = chance.below(4)
+        kind = chance.below(len(KINDS))
         q, n, k = draw_shape(chance)
         lines.append(judge_line(chance, kind, q, n, k, any_rule(chance, q, n),
                                 any_density(chance, kind, q, k)))
@@ -177,7 +181,7 @@ def shifting_benches(chance):
     """Rules that turn the ring, under any density: they hold."""
     lines = []
     for _ in range(200):
-        kind = chance.below(4)
+        kind = chance.below(len(KINDS))
         q, n, k = draw_shape(chance)
         rule = rule_part(TABLE, q, n, chance.below(n), shift_table(chance, q, n))
         lines.append(judge_line(chance, kind, q, n, k, rule,
@@ -189,7 +193,7 @@ def constant_benches(chance):
     """Densities whose total no rule can change."""
     lines = []
     for _ in range(200):
-        kind = chance.below(4)
+        kind = chance.below(len(KINDS))
         q, n, k = draw_shape(chance)
         charges = constant_density(chance, kind, q, k)
         if chance.happens(70):
@@ -218,7 +222,7 @@ def conserving_benches(chance):
     """Rules that keep a total by their making, and the same with one value changed."""
     lines = []
     for _ in range(700):
-        kind = chance.below(4)
+        kind = chance.below(len(KINDS))
         q, n, k = draw_shape(chance)
         letters, charges = conserving_bench(chance, kind, q, n, k)
         if chance.happens(20):
@@ -235,7 +239,7 @@ def sum_benches(chance):
     """Sums modulo q of a window of q·t + 1 cells, under charges that turn with q."""
     lines = []
     for _ in range(150):
-        kind = chance.below(4)
+        kind = chance.below(len(KINDS))
         q = chance.pick([2, 2, 3, 4])
         n = chance.pick([n for n in range(1, 8) if n % q == 1 and q ** (n - 1) <= 256])
         k = chance.pick([k for k in range(1, 4) if q ** (n + k - 2) <= 256])
@@ -253,18 +257,63 @@ def hidden_breaks(chance):
     """Few charges that cancel each other, so that ring A often shows no change."""
     lines = []
     for _ in range(300):
-        kind = chance.pick([PITCH, CHANNELS, BOTH])
+        kind = chance.pick([PITCH, CHANNELS, BOTH, CENTS])
         q, n, k = draw_shape(chance)
         rule = rule_part(TABLE, q, n, chance.below(n), random_table(chance, q, n))
         charges = random_density(chance, kind, q, k, two_charge)
         lines.append(judge_line(chance, kind, q, n, k, rule,
                                 table_part(kind, q, k, charges)))
     for q in range(2, 9):
-        for charge in range(1, PITCH_CLASSES):
+        charges = [(PITCH, charge) for charge in range(1, PITCH_CLASSES)]
+        charges += [(CENTS, cents_charge(value)) for value in (1, 400, 600, 800, 999, 1199)]
+        for kind, charge in charges:
             # Every letter becomes the last: a ring of zeros gains at each of its cells.
             lines.append(judge_line(
-                chance, PITCH, q, 2, 1, rule_part(TABLE, q, 2, 0, [q - 1] * q**2),
-                table_part(PITCH, q, 1, [0] * (q - 1) + [charge])))
+                chance, kind, q, 2, 1, rule_part(TABLE, q, 2, 0, [q - 1] * q**2),
+                table_part(kind, q, 1, [0] * (q - 1) + [charge])))
+    return lines
+
+
+def cents_density(chance, q, k):
+    """Mostly cents at the ends, as a part; few numbers where the table is long."""
+    def edge():
+        return cents_charge(chance.pick(CENTS_EDGES))
+    if q**k > 32:
+        return pattern_part(CENTS, q, k, random_letters(chance, q, k), edge())
+    return table_part(CENTS, q, k, [
+        edge() if chance.happens(70) else random_charge(chance, CENTS) for _ in range(q**k)])
+
+
+def cents_benches(chance):
+    """Densities in cents of every width, under rules that turn the ring and any others."""
+    lines = []
+    for k in range(1, 13):
+        for turn in range(9):
+            q = chance.pick([q for q in (2, 2, 3, 4, 8) if q**k <= 512] or [2])
+            n = chance.pick([n for n in range(1, 4) if q ** (n + k - 1) <= 4096])
+            letters = (shift_table(chance, q, n) if turn % 3 == 0 else
+                       [q - 1] * q**n if turn % 3 == 1 else random_table(chance, q, n))
+            lines.append(line(JUDGE, CENTS, q ** (n + k - 2), 2 * (n + k) - 3,
+                              rule_part(TABLE, q, n, chance.below(n), letters),
+                              cents_density(chance, q, k)))
+    return lines
+
+
+def cents_entries(chance):
+    """Each end of the cents as an entry, and beyond it what is none, at every place."""
+    lines = []
+    for charge in list(map(cents_charge, CENTS_EDGES)) + BAD_CENTS:
+        for at in range(4):
+            charges = random_density(chance, CENTS, 2, 2)
+            charges[at] = charge
+            lines.append(line(JUDGE, CENTS, 8, 7, elementary_part(chance.pick([30, 184, 240])),
+                              table_part(CENTS, 2, 2, charges)))
+            lines.append(line(TOTAL, CENTS, 0, 0, table_part(CENTS, 2, 2, charges),
+                              ring_part(random_letters(chance, 2, 9))))
+        parts = [pattern_part(CENTS, 2, 3, random_letters(chance, 2, 3), charge),
+                 cents_density(chance, 2, 2)]
+        for first, second in (parts, parts[::-1]):
+            lines.append(line(COMPARE, CENTS, 4, 5, first, second))
     return lines
 
 
@@ -315,7 +364,7 @@ def large_benches(chance):
     shapes += [(5, 3, 3), (6, 2, 3), (7, 4, 1), (2, 10, 2), (2, 12, 1), (2, 12, 1)]
     return [judge_line(chance, kind, q, n, k, large_rule(chance, q, n),
                        large_density(chance, kind, q, k))
-            for q, n, k in shapes for kind in [chance.below(4)]]
+            for q, n, k in shapes for kind in [chance.below(len(KINDS))]]
 
 
 # Groups of compare cases
@@ -331,7 +380,7 @@ def comparisons(chance):
     """Equal, shifted and changed densities, and densities that differ by a difference."""
     lines = []
     for _ in range(450):
-        kind = chance.below(4)
+        kind = chance.below(len(KINDS))
         q = chance.between(2, 8)
         k = chance.pick([k for k in range(1, 6) if q**k <= 64])
         wider = chance.pick([w for w in range(3) if q ** (k + w) <= 64])
@@ -353,7 +402,7 @@ def pattern_comparisons(chance):
     """A pattern against the same word elsewhere in a table, and against other patterns."""
     lines = []
     for _ in range(200):
-        kind = chance.below(4)
+        kind = chance.below(len(KINDS))
         q = chance.between(2, 8)
         k = chance.pick([k for k in range(1, 6) if q**k <= 64])
         wider = chance.pick([w for w in range(3) if q ** (k + w) <= 64])
@@ -370,7 +419,7 @@ def pattern_comparisons(chance):
             parts.reverse()
         lines.append(compare_line(chance, kind, q, k + wider, *parts))
     for _ in range(200):
-        kind = chance.below(4)
+        kind = chance.below(len(KINDS))
         q = chance.between(2, 8)
         widths = [k for k in range(1, 7) if q**k <= 64]
         k, other = chance.pick(widths), chance.pick(widths)
@@ -388,7 +437,7 @@ def pattern_comparisons(chance):
             # A run of ones begins as often as it ends.
             charge = small_charge(chance, kind)
             room = (2 ** (k - 1), 2 * k - 1)
-            if k <= 8 or kind == PITCH:
+            if k <= 8 or kind in (PITCH, CENTS):
                 lines.append(line(COMPARE, kind, *room,
                                   pattern_part(kind, 2, k, [0] + [1] * (k - 1), charge),
                                   pattern_part(kind, 2, k, [1] * (k - 1) + [0], charge)))
@@ -401,7 +450,7 @@ def pattern_comparisons(chance):
 def any_comparisons(chance):
     lines = []
     for _ in range(250):
-        kind = chance.below(4)
+        kind = chance.below(len(KINDS))
         q = chance.between(2, 8)
         widths = [k for k in range(1, 6) if q**k <= 64]
         k, other = chance.pick(widths), chance.pick(widths)
@@ -438,7 +487,7 @@ def next_rings(chance):
         room = length + chance.pick([0, 0, 1, 7, 60])
         if chance.happens(4):
             room = length - 1
-        lines.append(line(NEXT_RING, chance.below(4), chance.pick([0, 0, 5]), room,
+        lines.append(line(NEXT_RING, chance.below(len(KINDS)), chance.pick([0, 0, 5]), room,
                           any_rule(chance, q, n), ring_part(random_letters(chance, q, length))))
     for n in range(1, 13):
         for length in (1, 2, n, n + 1):
@@ -454,7 +503,7 @@ def next_rings(chance):
 def totals(chance):
     lines = []
     for _ in range(350):
-        kind = chance.below(4)
+        kind = chance.below(len(KINDS))
         q, k = draw_window(chance)
         length = ring_length(chance, k)
         lines.append(line(TOTAL, kind, 0, 0, any_density(chance, kind, q, k),
@@ -478,6 +527,10 @@ BAD_ALPHABETS = [0, 1, 9, 10, 99, 258, 65538, 2**32 + 2]
 BAD_WINDOWS = [0, 13, 14, 99, 259, 65537, 2**32 + 3]
 FAR_REACHES = [12, 13, 99, 256, 65536, 2**32]
 BAD_LETTERS = [2, 3, 9, 99, 255]
+# Kinds of which some charges are no entries; those in cents are too large or have a digit
+# above nine: 1199 and 1200 are sixteen bits here, 0x04AF and 0x04B0.
+RANGED = (VOICES, BOTH, CENTS)
+BAD_CENTS = [0x1200, 0x000A, 0x0A00, 0xA000, 0x00F0, 0x119A, 0x9999, 0xFFFF, 1199, 1200]
 RULE_CODES = (4, 5, 6, 9, 12, 14)
 DENSITY_CODES = (4, 7, 9, 12, 14, 15)
 
@@ -516,6 +569,8 @@ def faulty_rule(chance, form, codes):
 
 def bad_charge(chance, kind):
     """A charge that is no entry, for the kinds that have such."""
+    if kind == CENTS:
+        return chance.pick(BAD_CENTS)
     signed = chance.pick([LOWEST_VOICES - 1, HIGHEST_VOICES + 1, -(2**32), 2**32,
                           -(2**63), 2**63 - 1])
     return (signed, chance.below(PITCH_CLASSES)) if kind == BOTH else signed
@@ -526,7 +581,7 @@ def faulty_density(chance, kind, form, codes):
     q, k = chance.pick([(2, 3), (2, 1), (3, 2), (5, 1), (8, 1)])
     if 9 in codes:
         q, k = chance.pick([(8, 5), (3, 8), (4, 7), (5, 6), (8, 12)])
-    out_of_range = 15 in codes and kind in (VOICES, BOTH)
+    out_of_range = 15 in codes and kind in RANGED
     count = k if form == PATTERN else min(q**k, 100)
     keep = count - chance.pick([1, 1, 2, count]) if 12 in codes else None
     if form == PATTERN:
@@ -556,7 +611,7 @@ def faulty_rules(chance):
     for form in (TABLE, SUM):
         for codes in code_sets(chance, RULE_CODES):
             rule = faulty_rule(chance, form, codes)
-            kind = chance.below(4)
+            kind = chance.below(len(KINDS))
             if chance.happens(70):
                 # The second part may be faulty too: the first is made first.
                 density = chance.pick([
@@ -595,7 +650,7 @@ def surplus_values(chance):
     """Wrong letters and entries past those that are needed: they are ignored."""
     lines = []
     for _ in range(40):
-        kind = chance.below(4)
+        kind = chance.below(len(KINDS))
         rule = rule_part(TABLE, 2, 2, chance.below(2),
                          random_letters(chance, 2, 4) + random_letters(chance, 256, 3))
         if chance.happens(50):
@@ -606,7 +661,7 @@ def surplus_values(chance):
                                random_charge(chance, kind))
         if chance.happens(50):
             surplus = [random_charge(chance, kind)]
-            if kind in (VOICES, BOTH):
+            if kind in RANGED:
                 surplus = [bad_charge(chance, kind)]
             density = table_part(kind, q, 1, random_density(chance, kind, q, 1) + surplus)
         lines.append(line(JUDGE, kind, 9, 5, rule, density))
@@ -625,7 +680,7 @@ def refused_benches(chance):
     """Judge and compare refused by 8, 9 and 12, one at a time and together."""
     lines = []
     for _ in range(40):
-        kind = chance.below(4)
+        kind = chance.below(len(KINDS))
         q = chance.between(2, 8)
         other = chance.pick([a for a in range(2, 9) if a != q])
         wide = chance.happens(40)
@@ -640,12 +695,12 @@ def refused_benches(chance):
         for n in range(1, most + 1):
             k = most + 2 - n
             if k <= most:
-                kind = chance.below(4)
+                kind = chance.below(len(KINDS))
                 room = chance.pick([(4096, 4096), (0, 0)])
                 lines.append(line(JUDGE, kind, *room, small_rule(chance, q, n),
                                   small_density(chance, kind, q, k)))
     for _ in range(25):
-        kind = chance.below(4)
+        kind = chance.below(len(KINDS))
         q, n, k = draw_shape(chance)
         m = n + k - 1
         for crossing_room, ring_room in (
@@ -655,7 +710,7 @@ def refused_benches(chance):
             lines.append(line(JUDGE, kind, crossing_room, ring_room,
                               small_rule(chance, q, n), small_density(chance, kind, q, k)))
     for _ in range(20):
-        kind = chance.below(4)
+        kind = chance.below(len(KINDS))
         q = chance.between(2, 8)
         widths = [k for k in range(1, 5) if q**k <= 64]
         k, other = chance.pick(widths), chance.pick(widths)
@@ -673,7 +728,7 @@ def refused_rings(chance):
     """Next ring refused by 11, 12 and 14 and total by 11 and 14, singly and together."""
     lines = []
     for _ in range(60):
-        kind = chance.below(4)
+        kind = chance.below(len(KINDS))
         q, n, k = draw_shape(chance)
         length = chance.between(1, 12)
         ring = random_letters(chance, q, length)
@@ -703,7 +758,8 @@ def all_lines(keeping):
         worked_examples(), elementary_rules(), four_input_rules(chance, keeping),
         any_benches(chance), shifting_benches(chance), constant_benches(chance),
         conserving_benches(chance), sum_benches(chance), hidden_breaks(chance),
-        one_letter_benches(chance), large_benches(chance), comparisons(chance),
+        cents_benches(chance), cents_entries(chance), one_letter_benches(chance),
+        large_benches(chance), comparisons(chance),
         pattern_comparisons(chance), any_comparisons(chance), next_rings(chance),
         totals(chance), faulty_rules(chance), faulty_densities(chance),
         surplus_values(chance), refused_benches(chance), refused_rings(chance),
@@ -719,6 +775,7 @@ WORKED_RESULTS = [
     "breaks 100 10000 1 2 0,-1,0,-1 clean",
     "holds 0,1,1,0 clean",
     "breaks 00 00 0 8 8,8 clean",
+    "breaks 00 00 0 800 800,800 clean",
     "breaks 0 0 0 1 0 clean",
     "agree 0,1 clean",
     None,
@@ -740,11 +797,12 @@ def check_worked_examples():
 
 
 def check_elementary():
-    """Five elementary rules keep the ones, and no other."""
-    results = [result_line(text) for text in elementary_rules()[:256]]
-    holding = [number for number, result in enumerate(results)
-               if result.startswith("holds")]
+    """Five elementary rules keep the ones, and no other; and their number in thirds."""
+    results = [result_line(text) for text in elementary_rules()]
+    holding, _, thirds = [[number for number, result in enumerate(results[at:at + 256])
+                           if result.startswith("holds")] for at in (0, 256, 512)]
     assert tuple(holding) == KEEPING_ELEMENTARY, holding
+    assert set(holding) <= set(thirds), thirds
 
 
 def check_laws():
@@ -754,13 +812,33 @@ def check_laws():
         charges = [random_charge(chance, number) for _ in range(12)] + [kind.zero]
         if number == VOICES:
             charges += [2**63 - 1, -(2**63)]
+        if number == CENTS:
+            charges += BAD_CENTS
         for a in charges:
-            assert kind.plus(kind.zero, a) == a
+            assert kind.same(kind.plus(kind.zero, a), a)
             assert kind.plus(a, kind.opposite(a)) == kind.zero
             for b in charges:
                 assert kind.plus(a, b) == kind.plus(b, a)
                 for c in charges:
                     assert kind.plus(kind.plus(a, b), c) == kind.plus(a, kind.plus(b, c))
+
+
+def check_cents():
+    """What sixteen bits mean in cents, and which may be entries."""
+    kind = KINDS[CENTS]
+    for value in range(OCTAVE):
+        assert cents_value(cents_charge(value)) == value
+    entries = [bits for bits in range(2**16) if kind.is_entry(bits)]
+    assert entries == list(map(cents_charge, range(OCTAVE)))
+    for bits, value in ((0x0119, 119), (0x1199, 1199), (0x1200, 0), (0x000A, 10),
+                        (0x0A00, 1000), (0xA000, 400), (0x00F0, 150), (0xFFFF, 1065)):
+        assert kind.text(bits) == str(value), hex(bits)
+        assert kind.plus(bits, 0) == cents_charge(value)
+    assert kind.plus(0x0999, 0x0001) == 0x1000
+    assert kind.plus(0x1199, 0x0001) == 0
+    assert kind.plus(0x0702, 0x0702) == 0x0204
+    assert kind.opposite(0x0386) == 0x0814
+    assert kind.same(0x000A, 0x0010) and kind.same(0x1200, 0) and not kind.same(0x000A, 0)
 
 
 def rings_up_to(q, longest):
@@ -843,6 +921,7 @@ REFUSALS = {f"first {code}" for code in (4, 5, 6, 7, 9, 12, 14, 15)}
 REFUSALS |= {f"second {code}" for code in (4, 7, 9, 12, 14, 15)}
 REFUSALS |= {f"refused {code}" for code in (8, 9, 11, 12, 14)}
 LEAST_PER_WORD = 8
+CENTS_REFUSED = {"first 15", "second 15"}
 LEAST_RING_B = 100
 
 
@@ -852,7 +931,25 @@ def check_counts(counts, results):
     assert count_ring_b(results) >= LEAST_RING_B
 
 
+def check_cents_results(lines, results):
+    """Benches in cents hold and break at every width, and entries beyond them are refused."""
+    widths = {"holds": set(), "breaks": set()}
+    counts = Counter()
+    for text, result in zip(lines, results):
+        call, kind = text.split(" ", 2)[:2]
+        if int(kind) != CENTS:
+            continue
+        word = result_word(result)
+        counts[word] += 1
+        if int(call) == JUDGE and word in widths:
+            widths[word].add(read_case(text)[5]().k)
+    assert widths == {"holds": set(range(1, 13)), "breaks": set(range(1, 13))}, widths
+    assert ANSWERS | CENTS_REFUSED <= set(counts), counts
+    return counts
+
+
 def main():
+    check_cents()
     check_laws()
     check_worked_examples()
     check_elementary()
@@ -863,12 +960,14 @@ def main():
     counts = Counter(map(result_word, results))
     check_counts(counts, results)
     check_label_sums(lines, results)
+    cents = check_cents_results(lines, results)
     tried = check_on_rings(lines, results)
     write_lines(CASES_FOLDER, "stdin", lines, MOST_FILE_BYTES)
     write_lines(CASES_FOLDER, "stdout", results, MOST_FILE_BYTES)
     print(f"cases: {len(lines)}", file=sys.stderr)
     for word, count in sorted(counts.items()):
         print(f"{word}: {count}", file=sys.stderr)
+    print(f"in cents: {sum(cents.values())}", file=sys.stderr)
     print(f"ring B shown: {count_ring_b(results)}", file=sys.stderr)
     print(f"tried on all short rings: {sum(tried.values())}", file=sys.stderr)
 

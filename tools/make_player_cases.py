@@ -23,8 +23,8 @@ from make_judge_cases import (
     elementary_part,
 )
 from player_lines import ask_later, line, player_strips, read_case, result_lines
-from preset_format import BOTH, CHANNELS, KIND_NAMES, PITCH, VOICES
-from ring_judge import KINDS, LONGEST_RING
+from preset_format import BOTH, CENTS, CHANNELS, KIND_NAMES, PITCH, VOICES
+from ring_judge import KINDS, LONGEST_RING, cents_charge
 from ring_player import CLOSE, DONE, OPEN, READ, STEP, TOUCH, Player, Reading, Refused
 
 CASES_FOLDER = Path(__file__).resolve().parent.parent / "crates" / "player_cases"
@@ -64,7 +64,7 @@ def draw_unit(chance, kind):
 
 def elementary_bench(chance):
     """An elementary rule that keeps the ones, which may stand anywhere in wider words."""
-    kind = chance.below(4)
+    kind = chance.below(len(KINDS))
     k = chance.pick([1, 1, 2, 3])
     charges = letter_density(chance, kind, 2, k, draw_unit(chance, kind))
     return Bench(kind, 2, 3, k, elementary_part(chance.pick(KEEPING_ELEMENTARY)),
@@ -73,7 +73,7 @@ def elementary_bench(chance):
 
 def traffic_bench(chance):
     """A rule by which each cell hands on what fits, and letters that weigh what they count."""
-    kind = chance.below(4)
+    kind = chance.below(len(KINDS))
     q, n, k = draw_wide_shape(chance, 3)
     charges = letter_density(chance, kind, q, k, draw_unit(chance, kind))
     rule = rule_part(TABLE, q, n, chance.below(n), traffic_table(chance, q, n))
@@ -82,7 +82,7 @@ def traffic_bench(chance):
 
 def shifting_bench(chance):
     """A rule that turns the ring, under any density."""
-    kind = chance.below(4)
+    kind = chance.below(len(KINDS))
     q, n, k = draw_wide_shape(chance, 2)
     rule = rule_part(TABLE, q, n, chance.below(n), shift_table(chance, q, n))
     return Bench(kind, q, n, k, rule, any_density(chance, kind, q, k))
@@ -90,7 +90,7 @@ def shifting_bench(chance):
 
 def keeping_bench(chance):
     """A rule that keeps a total by its making."""
-    kind = chance.below(4)
+    kind = chance.below(len(KINDS))
     q, n, k = draw_shape(chance)
     letters, charges = conserving_bench(chance, kind, q, n, k)
     return Bench(kind, q, n, k, rule_part(TABLE, q, n, chance.below(n), letters),
@@ -99,7 +99,7 @@ def keeping_bench(chance):
 
 def sum_bench(chance):
     """The sum modulo q of a window of q·t + 1 cells, under charges that turn with q."""
-    kind = chance.pick([PITCH, CHANNELS, CHANNELS, BOTH])
+    kind = chance.pick([PITCH, CHANNELS, CHANNELS, BOTH, CENTS])
     q, n = chance.pick([(2, 3), (2, 3), (2, 5)] if kind == CHANNELS else
                        [(2, 3), (2, 5), (3, 4), (3, 4), (6, 1)])
     k = chance.pick([k for k in range(1, 4) if q ** (n + k - 2) <= 64])
@@ -111,7 +111,7 @@ def sum_bench(chance):
 
 def constant_bench(chance):
     """A density whose total no rule can change."""
-    kind = chance.below(4)
+    kind = chance.below(len(KINDS))
     q, n, k = draw_shape(chance)
     charges = plus_all(kind, constant_density(chance, kind, q, k),
                        difference_density(chance, kind, q, k))
@@ -123,7 +123,7 @@ def constant_bench(chance):
 
 def still_bench(chance):
     """A rule that changes nothing, by sums of one cell, under any density."""
-    kind = chance.below(4)
+    kind = chance.below(len(KINDS))
     q = chance.between(2, 8)
     k = chance.pick([k for n, k in SMALL_SHAPES[q] if n == 1])
     return Bench(kind, q, 1, k, rule_part(SUM, q, 1, 0, list(range(q))),
@@ -132,7 +132,7 @@ def still_bench(chance):
 
 def any_bench(chance):
     """A rule and a density that have nothing to do with each other."""
-    kind = chance.below(4)
+    kind = chance.below(len(KINDS))
     q, n, k = draw_shape(chance)
     return Bench(kind, q, n, k, any_rule(chance, q, n), any_density(chance, kind, q, k))
 
@@ -146,9 +146,9 @@ def spoilt_bench(chance):
 
 
 DRAWS = [
-    (elementary_bench, 60), (traffic_bench, 45), (shifting_bench, 60), (keeping_bench, 30),
-    (sum_bench, 40), (constant_bench, 35), (still_bench, 10), (any_bench, 20),
-    (spoilt_bench, 25),
+    (elementary_bench, 75), (traffic_bench, 55), (shifting_bench, 75), (keeping_bench, 38),
+    (sum_bench, 50), (constant_bench, 44), (still_bench, 12), (any_bench, 25),
+    (spoilt_bench, 30),
 ]
 
 
@@ -284,6 +284,11 @@ def wide_cases(chance):
         bench = Bench(BOTH, 2, n, k, rule_part(TABLE, 2, n, 0, shift_table(chance, 2, n)),
                       pattern_part(BOTH, 2, k, random_letters(chance, 2, k), (3, 7)))
         lines.append(case_line(chance, bench))
+    for n, k in ((7, 2), (2, 7)):
+        bench = Bench(CENTS, 2, n, k, rule_part(TABLE, 2, n, 0, shift_table(chance, 2, n)),
+                      pattern_part(CENTS, 2, k, random_letters(chance, 2, k),
+                                   cents_charge(999)))
+        lines.append(case_line(chance, bench))
     return lines
 
 
@@ -331,6 +336,22 @@ def check_worked_example():
                        Reading(1, 0, 1, 1)], answers
     assert strips.cells == [1, 1, 1, 0], strips
     assert result_lines(case)[:4] == ["holds open", "done", "done", "reading 1:0 0:0 0:0 0:0"]
+
+
+def check_cents_example():
+    """Letters that move to the left, in cents: sums beyond an octave and opposites."""
+    calls = [[OPEN, 0, 4], [STEP, 0, 0], [TOUCH, 0, 3], [STEP, 0, 0], [READ, 1, 0]]
+    case = read_case(line(CENTS, [4, 3, 4, 4, 5, 5, 5, 5],
+                          rule_part(TABLE, 4, 2, 0, [0, 1, 2, 3] * 4),
+                          table_part(CENTS, 4, 1, [0, 0x0386, 0x0702, 0x1199]),
+                          [0, 1, 2, 3], flat(calls), [4, 0]))
+    player, strips = Player(case.rule, case.density), player_strips(case)
+    answers = [player.ask(call, strips) for call in case.script]
+    assert answers[-1] == Reading(0x0386, 0x0112, 0, 0x1199), answers
+    assert strips.cells == [2, 3, 0, 3] and strips.touched[:4] == [0x0813, 0, 0, 0], strips
+    assert strips.crossed[:4] == [0x0001, 0x0112, 0x0499, 0x0001], strips
+    # past the ring each strip keeps its mark
+    assert [strips.opening[4], strips.crossed[4], strips.touched[4]] == [8, 0, 4], strips
 
 
 def window_of(call, player):
@@ -414,6 +435,7 @@ LEAST_PER_SORT = 5
 
 def main():
     check_worked_example()
+    check_cents_example()
     lines = all_lines()
     results = [result_lines(read_case(text)) for text in lines]
     counts = Counter()

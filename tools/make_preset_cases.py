@@ -17,9 +17,9 @@ sys.dont_write_bytecode = True
 
 from case_files import Chance, write_lines
 from preset_format import (
-    BOTH, CHANNELS, HIGHEST_CHANNELS, HIGHEST_PITCH, LARGEST_SIZE, LIMIT, PITCH,
-    VOICES, Preset, Refusal, check_format, preset_numbers, read_preset, read_whole,
-    write_number, write_preset,
+    BOTH, CENTS, CHANNELS, HIGHEST_CENTS, HIGHEST_CHANNELS, HIGHEST_PITCH, LARGEST_SIZE,
+    LIMIT, PITCH, VOICES, Preset, Refusal, check_format, preset_numbers, read_preset,
+    read_whole, write_number, write_preset,
 )
 
 CASES_FOLDER = Path(__file__).resolve().parent.parent / "crates" / "preset_cases"
@@ -29,13 +29,16 @@ LEAST_CASES = 2400
 LEAST_PER_CODE = 20
 MOST_FILE_BYTES = 600_000
 
-KINDS = (VOICES, PITCH, CHANNELS, BOTH)
+KINDS = (VOICES, PITCH, CHANNELS, BOTH, CENTS)
 LOWEST_VOICES = -(2**31)
 HIGHEST_VOICES = 2**31 - 1
 
 # Values where a number grows by one byte, and the two ends.
 NUMBER_EDGES = [0, 1, 127, 128, 16383, 16384, 2097151, 2097152,
                 268435455, 268435456, LIMIT - 1, LIMIT]
+
+# Cents at the ends, where the most digits carry, and where a number grows by one byte.
+CENTS_EDGES = [0, 1, 127, 128, 999, 1000, HIGHEST_CENTS - 1, HIGHEST_CENTS]
 
 # Spellings that are refused whatever follows them.
 MISSPELT = [bytes.fromhex(text) for text in (
@@ -73,6 +76,10 @@ def random_entry(chance, kind):
         if chance.happens(20):
             return 0, chance.pick([127, 128, 16383, 16384, HIGHEST_CHANNELS])
         return 0, chance.between(0, HIGHEST_CHANNELS)
+    if kind == CENTS:
+        if chance.happens(40):
+            return 0, chance.pick(CENTS_EDGES)
+        return 0, chance.between(0, HIGHEST_CENTS)
     return random_signed(chance), chance.between(0, HIGHEST_PITCH)
 
 
@@ -120,6 +127,7 @@ def small_presets():
         Preset(PITCH, 3, 1, 0, 1, [2, 0, 1], [(0, 11), (0, 0), (0, 7)]),
         Preset(CHANNELS, 2, 2, 0, 1, [0, 1, 0, 1], [(0, 65535), (0, 300)]),
         Preset(BOTH, 2, 1, 0, 1, [0, 1], [(3, 11), (LOWEST_VOICES, 0)]),
+        Preset(CENTS, 2, 1, 0, 2, [1, 0], [(0, 1199), (0, 1000), (0, 127), (0, 128)]),
     ]
 
 
@@ -152,6 +160,7 @@ def extreme_entries():
         PITCH: [(0, 0), (0, HIGHEST_PITCH)],
         CHANNELS: [(0, 0), (0, HIGHEST_CHANNELS)],
         BOTH: [(LOWEST_VOICES, HIGHEST_PITCH), (HIGHEST_VOICES, 0)],
+        CENTS: [(0, 0), (0, HIGHEST_CENTS)],
     }
     for kind, (low, high) in extremes.items():
         for entries in ([low, high], [high, low], [low, low], [high, high]):
@@ -164,6 +173,12 @@ def extreme_entries():
                 parts = [bytes([kind, 2, 1, 0, 1, 1, 0]), write_number(first)] + tail
                 parts += [write_number(second)] + tail
                 inputs.append(b"".join(parts))
+    # Cents and numbers beyond them, which are refused where they stand.
+    values = CENTS_EDGES + [HIGHEST_CENTS + 1, HIGHEST_CENTS + 2] + NUMBER_EDGES
+    for first in values:
+        for second in (0, first, HIGHEST_CENTS, HIGHEST_CENTS + 1):
+            header = bytes([CENTS, 2, 1, 0, 1, 1, 0])
+            inputs.append(header + write_number(first) + write_number(second))
     return inputs
 
 
@@ -175,11 +190,12 @@ def large_presets(chance):
         (BOTH, 3, 7, 1), (PITCH, 5, 5, 1), (CHANNELS, 7, 1, 4), (VOICES, 6, 1, 4),
         (BOTH, 8, 3, 1), (PITCH, 8, 3, 2), (CHANNELS, 8, 2, 3), (VOICES, 8, 2, 1),
         (CHANNELS, 8, 1, 1), (BOTH, 8, 1, 2), (VOICES, 2, 11, 2), (PITCH, 2, 7, 6),
-        (BOTH, 2, 6, 7),
+        (BOTH, 2, 6, 7), (CENTS, 2, 12, 1), (CENTS, 8, 2, 3), (CENTS, 3, 2, 6),
     ]
     inputs = [write_preset(random_preset(chance, *shape, entry=short_entry))
               for shape in plan]
     inputs.append(write_preset(random_preset(chance, VOICES, 2, 12, 1, 11)))
+    inputs.append(write_preset(random_preset(chance, CENTS, 2, 1, 12)))
     whole = inputs[3]
     inputs += [whole[:-1], whole[:2053], whole + b"\x00"]
     inputs.append(whole[:4100] + b"\x02" + whole[4101:])
@@ -194,7 +210,7 @@ def all_size_headers(chance):
     for q in range(2, 9):
         for n in range(1, 13):
             for k in range(1, 13):
-                inputs.append(bytes([chance.below(4), q, n, chance.below(n), k]))
+                inputs.append(bytes([chance.pick(KINDS), q, n, chance.below(n), k]))
     return inputs
 
 
@@ -206,20 +222,20 @@ def too_large(chance):
         for n in range(1, 13):
             k = total + 1 - n
             if 1 <= k <= 12:
-                header = bytes([chance.below(4), q, n, chance.below(n), k])
+                header = bytes([chance.pick(KINDS), q, n, chance.below(n), k])
                 inputs.append(header + bytes(chance.between(1, 30)))
     return inputs
 
 
 def header_faults(chance):
     """Each header field out of range by one and by much."""
-    far = [100, 127, 128, 255, 256, 257, 258, 259, 300, 65536, 65538,
+    far = [100, 127, 128, 255, 256, 257, 258, 259, 260, 300, 65536, 65538, 65540,
            2**31, 2**32 - 2, 2**32 - 1]
     inputs = []
     for preset in small_presets():
         parts = spell(preset)
         values = {
-            0: [4, 5] + far,
+            0: [5, 6, 7] + far,
             1: [0, 1, 9, 10] + far,
             2: [0, 13, 14] + far,
             3: [preset.n, preset.n + 1, 12] + far,
@@ -232,7 +248,7 @@ def header_faults(chance):
                     inputs.append(b"".join(parts[:field]) + write_number(value))
     for n in range(1, 13):
         for l in (n - 1, n, n + 1):
-            inputs.append(bytes([chance.below(4), 2, n, l, 1]))
+            inputs.append(bytes([chance.pick(KINDS), 2, n, l, 1]))
     return inputs
 
 
@@ -246,9 +262,12 @@ def body_faults(chance):
             for value in (preset.q, preset.q + 1, 127, 128, 256, 257, LIMIT):
                 inputs.append(replace(parts, index, write_number(value)))
         for index in range(first_entry, len(parts)):
-            pitch = [11, 12, 13, 127, 128, 256, 267, LIMIT]
-            channels = [65535, 65536, 65537, 131071, LIMIT]
-            for value in channels if preset.kind == CHANNELS else pitch:
+            values = [11, 12, 13, 127, 128, 256, 267, LIMIT]
+            if preset.kind == CHANNELS:
+                values = [65535, 65536, 65537, 131071, LIMIT]
+            if preset.kind == CENTS:
+                values = [1199, 1200, 1201, 2399, 4096, 4608, 65536, 65655, LIMIT]
+            for value in values:
                 inputs.append(replace(parts, index, write_number(value)))
     for q in range(2, 9):
         for _ in range(4):
@@ -315,7 +334,7 @@ def unfinished_numbers(chance):
 def two_faults(chance):
     """Two numbers replaced by odd ones, so that the first fault must decide."""
     odd = MISSPELT + [write_number(value) for value in
-                      (0, 2, 3, 4, 8, 9, 12, 13, 128, 65536, LIMIT)]
+                      (0, 2, 3, 4, 5, 8, 9, 12, 13, 128, 1200, 65536, LIMIT)]
     inputs = []
     for preset in small_presets():
         for _ in range(40):
@@ -371,7 +390,7 @@ def random_strings(chance):
         inputs.append(random_bytes(chance, chance.between(1, 30)))
     for _ in range(160):
         length = chance.between(1, 30)
-        inputs.append(bytes(chance.below(4) for _ in range(length)))
+        inputs.append(bytes(chance.below(5) for _ in range(length)))
     small = shapes(24)
     for _ in range(160):
         kind = chance.pick(KINDS)
@@ -443,6 +462,11 @@ def count_results(lines):
     return Counter(line.split(" ", 1)[0].split("@")[0] for line in lines)
 
 
+def kinds_read(lines):
+    """The kinds of the presets that are read to their end."""
+    return {int(line.split(" ")[2]) for line in lines if line.startswith("ok ")}
+
+
 def check_counts(counts):
     assert sum(counts.values()) >= LEAST_CASES
     assert set(counts) == {"ok"} | {str(code) for code in CODES}
@@ -456,6 +480,7 @@ def main():
     results = [result_line(data) for data in inputs]
     counts = count_results(results)
     check_counts(counts)
+    assert kinds_read(results) == set(KINDS)
     write_lines(CASES_FOLDER, "stdin", [data.hex() or "-" for data in inputs], MOST_FILE_BYTES)
     write_lines(CASES_FOLDER, "stdout", results, MOST_FILE_BYTES)
     print(f"cases: {len(inputs)}", file=sys.stderr)

@@ -9,10 +9,12 @@ from pathlib import Path
 sys.dont_write_bytecode = True
 
 from preset_format import (
-    BOTH, CHANNELS, CUT_SHORT, PITCH, VOICES, Preset, Refusal, preset_text, read_whole,
-    write_preset,
+    BOTH, CENTS, CHANNELS, CUT_SHORT, PITCH, VOICES, Preset, Refusal, preset_text,
+    read_whole, write_preset,
 )
-from ring_judge import KINDS, judge, step, table_density, table_rule, words
+from ring_judge import (
+    KINDS, judge, preset_charges, step, table_density, table_rule, words,
+)
 
 ROOT = Path(__file__).resolve().parent.parent
 PRESETS_FOLDER = ROOT / "presets"
@@ -52,6 +54,12 @@ def both_rotate():
     return Preset(BOTH, 3, 2, 1, 1, letters, [(0, 0), (1, 4), (-1, 7)])
 
 
+def cents_rotate():
+    """Each cell takes its right neighbour's letter; the letters are pitches in cents."""
+    letters = rule_letters(4, 2, lambda word: word[1])
+    return Preset(CENTS, 4, 2, 0, 1, letters, plain_entries([0, 386, 702, 1199]))
+
+
 def eight_letters():
     """Each cell takes its right neighbour's letter; letter a weighs a voices."""
     letters = rule_letters(8, 2, lambda word: word[1])
@@ -88,6 +96,11 @@ def pitch_ring_b():
     return Preset(PITCH, 2, 2, 0, 1, [1] * 4, plain_entries([0, 4]))
 
 
+def cents_octave():
+    """Every cell becomes one: a ring of three zeros gains an octave, which is no change."""
+    return Preset(CENTS, 2, 2, 0, 1, [1] * 4, plain_entries([0, 400]))
+
+
 def flip():
     """Each cell takes the other letter."""
     return Preset(VOICES, 2, 1, 0, 1, [1, 0], signed_entries([0, 1]))
@@ -105,11 +118,13 @@ def all_presets():
     presets["rule150-channels"] = elementary(150, CHANNELS, 1, plain_entries([0, 1]))
     presets["pitch-rotate"] = pitch_rotate()
     presets["both-rotate"] = both_rotate()
+    presets["cents-rotate"] = cents_rotate()
     presets["eight-letters"] = eight_letters()
     presets["window12"] = window12()
     presets["traffic-pairs"] = traffic_pairs()
     presets["wide-break"] = wide_break()
     presets["pitch-ring-b"] = pitch_ring_b()
+    presets["cents-octave"] = cents_octave()
     presets["flip"] = flip()
     return presets
 
@@ -134,13 +149,13 @@ def check_first_break(preset, size):
 def finding(preset):
     """The verdict on a preset."""
     kind = KINDS[preset.kind]
-    entries = [kind.from_parts(signed, plain) for signed, plain in preset.entries]
-    density = table_density(kind, preset.q, preset.k, entries)
+    density = table_density(kind, preset.q, preset.k, preset_charges(preset))
     m = preset.n + preset.k - 1
     return judge(rule_of(preset), density, preset.q ** (m - 1), 2 * m - 1)
 
 
-BREAKING = {"rule90", "traffic-pairs", "window12", "wide-break", "pitch-ring-b", "flip"}
+BREAKING = {"rule90", "traffic-pairs", "window12", "wide-break", "pitch-ring-b",
+            "cents-octave", "flip"}
 
 
 def check_verdicts(presets):
@@ -163,7 +178,8 @@ def check_damaged():
 
 
 # The gate's run of the program judges these, each kind of line among them.
-JUDGED = ("rule184", "damaged", "rule90", "pitch-ring-b", "both-rotate", "wide-break")
+JUDGED = ("rule184", "damaged", "rule90", "pitch-ring-b", "cents-octave", "both-rotate",
+          "wide-break")
 
 
 def verdict_line(name, data):

@@ -24,7 +24,8 @@
 # Then come the strips: a line for each answer (done, refused CODE PLACE, none where the
 # state did not allow the call, or reading and the opening, crossed and touched charges
 # and the charge now), and a line for each other strip. After `holds open` come the
-# answers to the rows and the player's strips once more. A charge is SIGNED:PLAIN.
+# answers to the rows and the player's strips once more. A charge is SIGNED:PLAIN, and
+# one in cents has its sixteen bits as the plain part.
 
 from dataclasses import dataclass
 

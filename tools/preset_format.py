@@ -6,10 +6,11 @@ LIMIT = 4_294_967_295
 LONGEST_NUMBER = 5
 LARGEST_SIZE = 4096
 
-VOICES, PITCH, CHANNELS, BOTH = range(4)
-KIND_NAMES = ("voices", "pitch", "channels", "both")
+VOICES, PITCH, CHANNELS, BOTH, CENTS = range(5)
+KIND_NAMES = ("voices", "pitch", "channels", "both", "cents")
 HIGHEST_PITCH = 11
 HIGHEST_CHANNELS = 65535
+HIGHEST_CENTS = 1199
 
 CUT_SHORT = 1
 MISSPELT = 2
@@ -117,6 +118,8 @@ def _read_entry(cursor, kind):
         return 0, cursor.number_within(0, HIGHEST_PITCH, BAD_ENTRY)
     if kind == CHANNELS:
         return 0, cursor.number_within(0, HIGHEST_CHANNELS, BAD_ENTRY)
+    if kind == CENTS:
+        return 0, cursor.number_within(0, HIGHEST_CENTS, BAD_ENTRY)
     signed = signed_from_number(cursor.number())
     return signed, cursor.number_within(0, HIGHEST_PITCH, BAD_ENTRY)
 
@@ -124,7 +127,7 @@ def _read_entry(cursor, kind):
 def read_preset(data):
     """Read a preset from the left; return it and the place after it."""
     cursor = _Cursor(data)
-    kind = cursor.number_within(0, 3, BAD_KIND)
+    kind = cursor.number_within(0, CENTS, BAD_KIND)
     q = cursor.number_within(2, 8, BAD_ALPHABET)
     n = cursor.number_within(1, 12, BAD_WINDOW)
     l = cursor.number_within(0, n - 1, BAD_REACH)
@@ -219,6 +222,20 @@ def check_format():
             raise AssertionError(hexes)
     for value in (0, -1, 1, -2, 2, -(2**31), 2**31 - 1):
         assert signed_from_number(number_from_signed(value)) == value
+    cents = Preset(CENTS, 2, 1, 0, 1, [0, 1], [(0, 127), (0, HIGHEST_CENTS)])
+    data = bytes.fromhex("0402010001 0001 7f892f")
+    assert write_preset(cents) == data
+    assert read_whole(data) == cents
+    assert preset_text(cents).endswith("density 127 1199\nbytes 10\n")
+    assert preset_text(cents).startswith("kind cents\n")
+    for hexes, code, place in (("0402010001 0001 7f8930", BAD_ENTRY, 8),
+                               ("0502010001 0001 0000", BAD_KIND, 0)):
+        try:
+            read_whole(bytes.fromhex(hexes))
+        except Refusal as refusal:
+            assert (refusal.code, refusal.place) == (code, place), hexes
+        else:
+            raise AssertionError(hexes)
 
 
 def main():

@@ -89,6 +89,11 @@ NO_OUTPUT = "standard output cannot be written: Bad file descriptor (os error 9)
 RULE_184 = (PRESETS / "rule184.preset").read_bytes()
 # beside traffic-pairs, where each car with a gap in front of it weighs one: each gap with a car in front of it
 GAP_PAIRS = bytes.fromhex("0002030102 0000000101010001 00020000")
+# cents-rotate, where the last letter weighs a cent less
+CENTS_1198 = bytes.fromhex("0404020001 00010203000102030001020300010203 00 8302 853E 892E")
+# each word 10 or each word 01 weighs 700 cents
+CENTS_PAIRS = bytes.fromhex("0402030102 0000000101010001 0000853C00")
+CENTS_GAP_PAIRS = bytes.fromhex("0402030102 0000000101010001 00853C0000")
 # 256 bytes is the room that the program first lends a word
 LONG_PATH = "./" * 500 + "rule184.preset"
 
@@ -123,6 +128,26 @@ SHOW = [
         status=1,
         out=refused(14, 7, "a letter is not below the alphabet size"),
     ),
+    Case(
+        "a kind that is not known",
+        ["show", "kind"],
+        files={"kind": b"\5" + RULE_184[1:]},
+        status=1,
+        out=refused(3, 0, "the kind of charge is above 4"),
+    ),
+    Case(
+        "the most cents and the fewest",
+        ["show", "cents"],
+        files={"cents": bytes.fromhex("0402010002 0001 00892F87688767")},
+        out="kind cents\nletters 2\nwindow 1\nreach 0\nwidth 2\nrule 0 1\ndensity 0 1199 1000 999\nbytes 14\n",
+    ),
+    Case(
+        "an octave in cents",
+        ["show", "octave"],
+        files={"octave": bytes.fromhex("0402010002 0001 00892F89308767")},
+        status=1,
+        out=refused(15, 10, "an entry is outside the range of its kind"),
+    ),
     Case("a long name", ["show", LONG_PATH], out=PRESETS / "rule184.txt"),
     *[
         Case(f"a name of {length} bytes", ["show", name], out=PRESETS / "rule184.txt", files={name: RULE_184})
@@ -154,6 +179,7 @@ SHOW = [
 ENCODED = "{}: 15 bytes\n".format
 OWN_TEXT = "{} is the text itself, which is kept".format
 TEXT_184 = (PRESETS / "rule184.txt").read_bytes()
+TEXT_CENTS = (PRESETS / "cents-rotate.txt").read_bytes()
 
 
 def bad_text(name, text, sentence):
@@ -217,7 +243,8 @@ ENCODE = [
     bad_text("no text", "", "The text ends where the line kind is due."),
     bad_text("a text that ends", "kind voices\nletters 2\n", "The text ends where the line window is due."),
     bad_text("a wrong line", "kind voices\n\nwindow 3\n", "Line 3: expected the word letters."),
-    bad_text("a wrong kind", "kind sounds\n", "Line 1: expected voices, pitch, channels or both."),
+    bad_text("a wrong kind", "kind sounds\n", "Line 1: expected voices, pitch, channels, both or cents."),
+    bad_text("a kind's name cut short", "kind cent\n", "Line 1: expected voices, pitch, channels, both or cents."),
     bad_text("no number", "kind voices\nletters two\n", "Line 2: expected a number."),
     bad_text("a number too many", "kind voices\nletters 2 2\n", "Line 2: expected the end of the line."),
     bad_text(
@@ -232,6 +259,26 @@ ENCODE = [
         "a reach that is not below the window",
         TEXT_184.replace(b"reach 1", b"reach 3"),
         "Line 4: the reach is not below the window.",
+    ),
+    bad_text(
+        "an octave in cents",
+        TEXT_CENTS.replace(b"386", b"1200"),
+        "Line 7: an entry is outside the range of its kind.",
+    ),
+    bad_text(
+        "many octaves in cents",
+        TEXT_CENTS.replace(b"1199", b"65536"),
+        "Line 7: an entry is outside the range of its kind.",
+    ),
+    bad_text("cents below zero", TEXT_CENTS.replace(b"386", b"-386"), "Line 7: expected an entry of the kind."),
+    bad_text("cents with a part", TEXT_CENTS.replace(b"386", b"0:386"), "Line 7: expected an entry of the kind."),
+    bad_text("an entry in cents too few", TEXT_CENTS.replace(b"386 ", b""), "Line 7: expected 4 entries."),
+    Case(
+        "cents with zeros in front",
+        ["encode", "text", "new.preset"],
+        files={"text": TEXT_CENTS.replace(b" 0 386", b" 0000 0386")},
+        out="new.preset: 28 bytes\n",
+        written={"new.preset": PRESETS / "cents-rotate.preset"},
     ),
     Case(
         "a bad text makes no file",
@@ -394,6 +441,21 @@ JUDGE = [
         err=["--all is no option here (ringbench help tells what there is)"],
     ),
     Case("one twice", ["judge", "rule184.preset", "rule184.preset"], out=RULE_184_HOLDS * 2),
+    Case("one in cents holds", ["judge", "cents-rotate.preset"], out=HOLDS("cents-rotate.preset")),
+    # three cells gain 1200 cents, which is no change, and two gain 800
+    Case(
+        "one in cents breaks",
+        ["judge", "cents-octave.preset", "cents-rotate.preset"],
+        status=1,
+        out="cents-octave.preset\tbreaks\t00\t00\t0\t800\n" + HOLDS("cents-rotate.preset"),
+    ),
+    Case(
+        "one in cents is refused",
+        ["judge", "octave"],
+        files={"octave": bytes.fromhex("0402010001 0001 008930")},
+        status=1,
+        out="octave\trefused\t15\t8\n",
+    ),
 ]
 
 CROSSINGS = [
@@ -403,6 +465,10 @@ CROSSINGS = [
     Case("letters that move", ["crossings", "both-rotate.preset"], out="0\t0:0\n1\t1:4\n2\t-1:7\n"),
     # each letter goes to the left: its opposite crosses to the right
     Case("letters that move to the left", ["crossings", "pitch-rotate.preset"], out="0\t0\n1\t9\n2\t5\n3\t2\n"),
+    # likewise in cents: 1200 less 386, 702 and 1199
+    Case("cents that move to the left", ["crossings", "cents-rotate.preset"], out="0\t0\n1\t814\n2\t498\n3\t1\n"),
+    # one that breaks: a zero gains 400 cents, and the table says how much too little is in front of it
+    Case("cents that break", ["crossings", "cents-octave.preset"], status=1, out="0\t800\n1\t800\n"),
     # what crosses is the first letter with or without the second
     Case("rule 150", ["crossings", "rule150-channels.preset"], out="00\t0\n01\t1\n10\t1\n11\t0\n"),
     # one that breaks has a table all the same
@@ -436,6 +502,25 @@ COMPARE = [
         ["compare", "rule184.preset", "pitch-rotate.preset"],
         status=1,
         out="rule184.preset\tpitch-rotate.preset\tkinds differ\n",
+    ),
+    Case(
+        "pitch and cents",
+        ["compare", "pitch-rotate.preset", "cents-rotate.preset"],
+        status=1,
+        out="pitch-rotate.preset\tcents-rotate.preset\tkinds differ\n",
+    ),
+    Case(
+        "two in cents agree",
+        ["compare", "pairs", "gap-pairs"],
+        files={"pairs": CENTS_PAIRS, "gap-pairs": CENTS_GAP_PAIRS},
+        out="pairs\tgap-pairs\tagree\n",
+    ),
+    Case(
+        "two in cents differ",
+        ["compare", "cents-rotate.preset", "1198"],
+        files={"1198": CENTS_1198},
+        status=1,
+        out="cents-rotate.preset\t1198\tdiffer\t3\t3\t1199\t1198\n",
     ),
     Case("the first is damaged", ["compare", "damaged.preset", "rule184.preset"], status=1, out=DAMAGED),
     Case("the second is damaged", ["compare", "rule184.preset", "damaged.preset"], status=1, out=DAMAGED),
@@ -480,6 +565,19 @@ RUN = [
         "both with meters",
         ["run", "both-rotate.preset", "012", "1", "--meters"],
         out="012 0:0 0:0 0:0\n201 -1:7 0:0 1:4\n",
+    ),
+    Case("cents", ["run", "cents-rotate.preset", "0123", "1"], out="0123\n1230\n"),
+    # into the second site came 814 and then 498 cents, an octave and 112
+    Case(
+        "cents with meters",
+        ["run", "cents-rotate.preset", "0123", "2", "--meters"],
+        out="0123 0 0 0 0\n1230 0 814 498 1\n2301 814 112 499 1\n",
+    ),
+    Case(
+        "cents that break, with meters",
+        ["run", "cents-octave.preset", "000", "1", "--meters"],
+        status=1,
+        out="cents-octave.preset\tbreaks\n",
     ),
     Case("no steps", ["run", "rule184.preset", "1100", "0"], out="1100\n"),
     Case("no steps with meters", ["run", "rule184.preset", "1100", "0", "--meters"], out="1100 0 0 0 0\n"),
@@ -618,6 +716,23 @@ PLAY = [
         "2\t-1:7\t1:4\t0:0\t1:4\n"
         "close: done\n",
         "both-rotate.preset",
+    ),
+    plays(
+        "cents: one call of each sort",
+        "open 0123\nstep\ntouch 0 3\nread 1\narc 1 2\nmeters\nclose\n",
+        "open 0123: done\n"
+        "step: done\n"
+        "touch 0 3: done\n"
+        "read 1: opening 386, crossed 814, touched 0, now 702\n"
+        "arc 1 2: opening 1088, in 814, out 1, touched 0, now 701, adds up\n"
+        "meters:\n"
+        "site\topening\tcrossed\ttouched\tnow\n"
+        "0\t0\t0\t813\t1199\n"
+        "1\t386\t814\t0\t702\n"
+        "2\t702\t498\t0\t1199\n"
+        "3\t1199\t1\t0\t0\n"
+        "close: done\n",
+        "cents-rotate.preset",
     ),
     plays("an empty script", "", ""),
     plays("a script of blank lines and comments", "\n# open 10\n   \t\r\n#\n", ""),

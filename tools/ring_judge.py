@@ -4,13 +4,14 @@
 # is there to check. A call that is refused raises Refusal with a code and a place.
 
 import itertools
+import operator
 from dataclasses import dataclass
 from functools import cache
 from typing import Any, Callable
 
 from preset_format import (
-    BAD_ALPHABET, BAD_ENTRY, BAD_LETTER, BAD_REACH, BAD_WIDTH, BAD_WINDOW, BOTH,
-    CHANNELS, HIGHEST_PITCH, LARGEST_SIZE, PITCH, TOO_LARGE, VOICES, Refusal,
+    BAD_ALPHABET, BAD_ENTRY, BAD_LETTER, BAD_REACH, BAD_WIDTH, BAD_WINDOW, BOTH, CENTS,
+    CHANNELS, HIGHEST_CENTS, HIGHEST_PITCH, LARGEST_SIZE, PITCH, TOO_LARGE, VOICES, Refusal,
 )
 
 ALPHABETS_DIFFER = 8
@@ -20,6 +21,7 @@ SHORT_STRIP = 12
 LOWEST_VOICES = -(2**31)
 HIGHEST_VOICES = 2**31 - 1
 PITCH_CLASSES = HIGHEST_PITCH + 1
+OCTAVE = HIGHEST_CENTS + 1
 LONGEST_RING = 4096
 
 
@@ -28,7 +30,7 @@ LONGEST_RING = 4096
 
 @dataclass(frozen=True)
 class Kind:
-    """A kind of charge; charges with one meaning are equal values."""
+    """A kind of charge; entries and sums with one meaning are equal values."""
     zero: Any
     plus: Callable
     opposite: Callable
@@ -36,6 +38,7 @@ class Kind:
     from_parts: Callable  # the charge of a signed and a plain part
     parts: Callable  # the two parts of a charge; the one that the kind lacks is 0
     text: Callable
+    same: Callable = operator.eq  # whether any two charges have one meaning
 
     def minus(self, first, second):
         return self.plus(first, self.opposite(second))
@@ -55,6 +58,25 @@ def signed64(value):
 
 def is_voices_entry(value):
     return LOWEST_VOICES <= value <= HIGHEST_VOICES
+
+
+# A charge in cents is sixteen bits: four decimal digits of four bits each.
+
+
+def cents_charge(value):
+    """The charge whose digits are those of the value modulo an octave."""
+    return int(str(value % OCTAVE), 16)
+
+
+def cents_value(bits):
+    """What the digits mean, modulo an octave; a digit above nine counts too."""
+    thousands, hundreds, tens, ones = (int(digit, 16) for digit in f"{bits:04x}")
+    return (1000 * thousands + 100 * hundreds + 10 * tens + ones) % OCTAVE
+
+
+def is_cents_entry(bits):
+    digits = f"{bits:04x}"
+    return digits.isdecimal() and int(digits) <= HIGHEST_CENTS
 
 
 KINDS = {
@@ -94,7 +116,24 @@ KINDS = {
         parts=lambda a: a,
         text=lambda a: f"{a[0]}:{a[1]}",
     ),
+    CENTS: Kind(
+        zero=0,
+        plus=lambda a, b: cents_charge(cents_value(a) + cents_value(b)),
+        opposite=lambda a: cents_charge(-cents_value(a)),
+        is_entry=is_cents_entry,
+        from_parts=lambda signed, plain: plain,
+        parts=lambda a: (0, a),
+        text=lambda a: str(cents_value(a)),
+        same=lambda a, b: cents_value(a) == cents_value(b),
+    ),
 }
+
+
+def preset_charges(preset):
+    """The charges of a preset's entries, of which those in cents are sent as their value."""
+    if preset.kind == CENTS:
+        return [cents_charge(plain) for _, plain in preset.entries]
+    return [KINDS[preset.kind].from_parts(signed, plain) for signed, plain in preset.entries]
 
 
 # Words and rings

@@ -8,7 +8,9 @@ from pathlib import Path
 sys.dont_write_bytecode = True
 
 from preset_format import read_whole
-from ring_judge import KINDS, ring_total, step, table_density, table_rule, words
+from ring_judge import (
+    KINDS, preset_charges, ring_total, step, table_density, table_rule, words,
+)
 
 MOST_CELLS = 10
 
@@ -28,8 +30,8 @@ def main():
     preset = read_whole(Path(sys.argv[1]).read_bytes())
     kind = KINDS[preset.kind]
     rule = table_rule(preset.q, preset.n, preset.l, preset.letters)
-    entries = [kind.from_parts(signed, plain) for signed, plain in preset.entries]
-    found = changing_ring(rule, table_density(kind, preset.q, preset.k, entries))
+    density = table_density(kind, preset.q, preset.k, preset_charges(preset))
+    found = changing_ring(rule, density)
     if found is None:
         print(f"no total changes on rings of up to {MOST_CELLS} cells")
     else:
