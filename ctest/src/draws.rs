@@ -30,6 +30,8 @@ fn entry(random: &mut Random, kind: Kind) -> Entry {
     };
     let plain = match kind {
         Kind::Channels => random.below(65536),
+        Kind::Cents if random.once_in(2) => random.pick(&[0, 1, 999, 1000, 1199]),
+        Kind::Cents => random.below(1200),
         _ => random.below(12),
     } as u64;
     Entry {

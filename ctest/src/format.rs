@@ -11,9 +11,16 @@ pub enum Kind {
     Pitch,
     Channels,
     Both,
+    Cents,
 }
 
-pub const KINDS: [Kind; 4] = [Kind::Voices, Kind::Pitch, Kind::Channels, Kind::Both];
+pub const KINDS: [Kind; 5] = [
+    Kind::Voices,
+    Kind::Pitch,
+    Kind::Channels,
+    Kind::Both,
+    Kind::Cents,
+];
 
 /// The limit on the words of a label.
 pub const MOST_WORDS: usize = 4096;
@@ -139,6 +146,7 @@ impl Reader<'_> {
             Kind::Voices => 0,
             Kind::Channels => self.field(0, 65535, 15)?,
             Kind::Pitch | Kind::Both => self.field(0, 11, 15)?,
+            Kind::Cents => self.field(0, 1199, 15)?,
         };
         Ok(entry)
     }
@@ -147,13 +155,14 @@ impl Reader<'_> {
 /// The preset that all the bytes are.
 pub fn read_preset(bytes: &[u8]) -> Result<Preset, Refusal> {
     let mut reader = Reader { bytes, place: 0 };
-    let kind = KINDS[reader.field(0, 3, 3)? as usize];
+    let kind = KINDS[reader.field(0, 4, 3)? as usize];
     let q = reader.field(2, 8, 4)? as usize;
     let n = reader.field(1, 12, 5)? as usize;
     let l = reader.field(0, n as u64 - 1, 6)? as usize;
     let width_place = reader.place;
     let k = reader.field(1, 12, 7)? as usize;
-    if q.pow((n + k - 1) as u32) > MOST_WORDS {
+    let words = q.checked_pow((n + k - 1) as u32); // none where it is far too large
+    if words.is_none_or(|count| count > MOST_WORDS) {
         return Err((9, width_place));
     }
     let mut letters = Vec::new();

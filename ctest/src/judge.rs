@@ -14,6 +14,7 @@ pub fn plus(kind: Kind, a: Entry, b: Entry) -> Entry {
         signed: a.signed.wrapping_add(b.signed),
         plain: match kind {
             Kind::Channels => a.plain ^ b.plain,
+            Kind::Cents => (a.plain + b.plain) % 1200,
             _ => (a.plain + b.plain) % 12,
         },
     }
@@ -24,6 +25,7 @@ fn opposite(kind: Kind, a: Entry) -> Entry {
         signed: a.signed.wrapping_neg(),
         plain: match kind {
             Kind::Channels => a.plain,
+            Kind::Cents => (1200 - a.plain) % 1200,
             _ => (12 - a.plain) % 12,
         },
     }

@@ -1,7 +1,7 @@
 //! Reading, on good and damaged bytes and on strips of many lengths.
 
 use ctest::draws::{any_preset, damaged, preset, sizes};
-use ctest::format::{KINDS, preset_bytes, read_preset};
+use ctest::format::{KINDS, Kind, preset_bytes, read_preset};
 use ctest::library::{Entry, ReadAnswer, read};
 use ctest::random::Random;
 
@@ -67,6 +67,31 @@ fn damaged_presets() {
     for _ in 0..20000 {
         let bytes = preset_bytes(&any_preset(&mut random));
         compare(&damaged(&mut random, &bytes), 4096, 4100);
+    }
+}
+
+/// Plain parts at the end of each kind's range and beyond it, at both entries of a preset.
+#[test]
+fn plain_parts_around_the_ends() {
+    let mut random = Random::new(16);
+    for kind in KINDS {
+        let end = match kind {
+            Kind::Voices => continue,
+            Kind::Pitch | Kind::Both => 12,
+            Kind::Channels => 65536,
+            Kind::Cents => 1200,
+        };
+        let whole = preset(&mut random, kind, (2, 1, 1));
+        for plain in [0, 1, end - 1, end, end + 1, 2 * end, u64::from(u32::MAX)] {
+            for place in 0..2 {
+                let mut changed = whole.clone();
+                changed.entries[place].plain = plain;
+                let bytes = preset_bytes(&changed);
+                let refused = read_preset(&bytes).is_err_and(|(code, _)| code == 15);
+                assert_eq!(refused, plain >= end);
+                compare(&bytes, 4096, 4096);
+            }
+        }
     }
 }
 

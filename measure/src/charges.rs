@@ -33,6 +33,10 @@ pub struct Channels(u16);
 #[derive(Clone, Copy)]
 pub struct Both(Voices, Pitch);
 
+/// Four decimal digits of four bits each, the thousands highest, of a number below 1,200.
+#[derive(Clone, Copy)]
+pub struct Cents(u16);
+
 impl Charge for Voices {
     const ZERO: Voices = Voices(0);
 
@@ -155,6 +159,74 @@ impl Charge for Both {
         Entry {
             signed: self.0.0,
             plain: u64::from(self.1.0),
+        }
+    }
+}
+
+/// The first number past the cents, in digits.
+const OCTAVE_DIGITS: u16 = 0x1200;
+
+/// Sixes are added, so that a digit above nine carries, and taken back where none did. The thousands do not carry.
+fn digits_plus(a: u16, b: u16) -> u16 {
+    let sixes = a + 0x0666;
+    let sum = sixes + b;
+    let stays = !(sixes ^ b ^ sum) & 0x1110;
+    sum - ((stays >> 2) | (stays >> 3))
+}
+
+/// A digit that borrows goes round by sixteen and not by ten, so six more are taken. The second is not the greater.
+fn digits_minus(a: u16, b: u16) -> u16 {
+    let rest = a - b;
+    let borrows = (a ^ b ^ rest) & 0x1110;
+    rest - ((borrows >> 2) | (borrows >> 3))
+}
+
+fn to_digits(value: u16) -> u16 {
+    let digit = |unit: u16| value / unit % 10;
+    (digit(1000) << 12) | (digit(100) << 8) | (digit(10) << 4) | digit(1)
+}
+
+fn to_value(digits: u16) -> u16 {
+    let digit = |place: u16| (digits >> place) & 0xf;
+    digit(12) * 1000 + digit(8) * 100 + digit(4) * 10 + digit(0)
+}
+
+impl Charge for Cents {
+    const ZERO: Cents = Cents(0);
+
+    fn plus(self, other: Cents) -> Cents {
+        let sum = digits_plus(self.0, other.0);
+        Cents(if sum < OCTAVE_DIGITS {
+            sum
+        } else {
+            digits_minus(sum, OCTAVE_DIGITS)
+        })
+    }
+
+    fn opposite(self) -> Cents {
+        Cents(if self.0 == 0 {
+            0
+        } else {
+            digits_minus(OCTAVE_DIGITS, self.0)
+        })
+    }
+
+    fn same(self, other: Cents) -> bool {
+        self.0 == other.0
+    }
+
+    fn is_entry(self) -> bool {
+        true
+    }
+
+    fn from_entry(entry: Entry) -> Option<Cents> {
+        (entry.signed == 0 && entry.plain < 1200).then(|| Cents(to_digits(entry.plain as u16)))
+    }
+
+    fn to_entry(self) -> Entry {
+        Entry {
+            signed: 0,
+            plain: u64::from(to_value(self.0)),
         }
     }
 }

@@ -1,6 +1,6 @@
 //! The judge by hand, twice: by the recurrences that the proved code goes by, and by the plain formula.
 
-use crate::charges::{Both, Channels, Charge, Pitch, Voices};
+use crate::charges::{Both, Cents, Channels, Charge, Pitch, Voices};
 use crate::reading::{counts, read};
 use ctest::format::{MOST_WORDS, Refusal};
 use ctest::library::{Entry, Header, JudgeAnswer};
@@ -281,7 +281,8 @@ fn judge_bytes(
         0 => judge_kind::<Voices>(way, header, letters, entries, crossings, ring),
         1 => judge_kind::<Pitch>(way, header, letters, entries, crossings, ring),
         2 => judge_kind::<Channels>(way, header, letters, entries, crossings, ring),
-        _ => judge_kind::<Both>(way, header, letters, entries, crossings, ring),
+        3 => judge_kind::<Both>(way, header, letters, entries, crossings, ring),
+        _ => judge_kind::<Cents>(way, header, letters, entries, crossings, ring),
     }
 }
 

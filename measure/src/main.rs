@@ -36,20 +36,22 @@ enum Side {
     Plain,
 }
 
-const WORKS: [(&str, Work, usize, usize, usize); 13] = [
-    ("judge-2-12-1", Work::Judge, 2, 12, 1),
-    ("judge-2-6-7", Work::Judge, 2, 6, 7),
-    ("judge-2-1-12", Work::Judge, 2, 1, 12),
-    ("judge-8-4-1", Work::Judge, 8, 4, 1),
-    ("judge-8-2-3", Work::Judge, 8, 2, 3),
-    ("judge-2-3-1", Work::Judge, 2, 3, 1),
-    ("step-2-3-1", Work::Step, 2, 3, 1),
-    ("step-2-12-1", Work::Step, 2, 12, 1),
-    ("step-2-6-7", Work::Step, 2, 6, 7),
-    ("step-2-1-12", Work::Step, 2, 1, 12),
-    ("step-8-4-1", Work::Step, 8, 4, 1),
-    ("step-8-2-3", Work::Step, 8, 2, 3),
-    ("read-2-1-12", Work::Read, 2, 1, 12),
+const WORKS: [(&str, Work, Kind, usize, usize, usize); 15] = [
+    ("judge-2-12-1", Work::Judge, Kind::Voices, 2, 12, 1),
+    ("judge-2-6-7", Work::Judge, Kind::Voices, 2, 6, 7),
+    ("judge-2-1-12", Work::Judge, Kind::Voices, 2, 1, 12),
+    ("judge-8-4-1", Work::Judge, Kind::Voices, 8, 4, 1),
+    ("judge-8-2-3", Work::Judge, Kind::Voices, 8, 2, 3),
+    ("judge-2-3-1", Work::Judge, Kind::Voices, 2, 3, 1),
+    ("judge-pitch-2-12-1", Work::Judge, Kind::Pitch, 2, 12, 1),
+    ("judge-cents-2-12-1", Work::Judge, Kind::Cents, 2, 12, 1),
+    ("step-2-3-1", Work::Step, Kind::Voices, 2, 3, 1),
+    ("step-2-12-1", Work::Step, Kind::Voices, 2, 12, 1),
+    ("step-2-6-7", Work::Step, Kind::Voices, 2, 6, 7),
+    ("step-2-1-12", Work::Step, Kind::Voices, 2, 1, 12),
+    ("step-8-4-1", Work::Step, Kind::Voices, 8, 4, 1),
+    ("step-8-2-3", Work::Step, Kind::Voices, 8, 2, 3),
+    ("read-2-1-12", Work::Read, Kind::Both, 2, 1, 12),
 ];
 
 /// A preset of which the rule moves letters along, so that it holds under every density.
@@ -67,6 +69,7 @@ fn shift(random: &mut Random, kind: Kind, q: usize, n: usize, k: usize) -> Prese
                 signed: i64::from(random.next() as i32),
                 plain: match kind {
                     Kind::Voices => 0,
+                    Kind::Cents => random.next() % 1200,
                     _ => random.next() % 12,
                 },
             })
@@ -90,12 +93,16 @@ fn steps(len: usize, count: usize) -> Vec<ScriptCall> {
 }
 
 /// One work on one side, done by a call of the function that is returned; a step's is done so many times a call.
-fn job(work: Work, side: Side, q: usize, n: usize, k: usize, times: usize) -> Box<dyn FnMut()> {
+fn job(
+    work: Work,
+    side: Side,
+    kind: Kind,
+    q: usize,
+    n: usize,
+    k: usize,
+    times: usize,
+) -> Box<dyn FnMut()> {
     let mut random = Random::new(7);
-    let kind = match work {
-        Work::Read => Kind::Both,
-        _ => Kind::Voices,
-    };
     let preset = shift(&mut random, kind, q, n, k);
     let bytes = preset_bytes(&preset);
     let mut entries = vec![Entry::default(); MOST_WORDS];
@@ -166,13 +173,13 @@ fn best(mut run: impl FnMut()) -> f64 {
 }
 
 /// A work's time: a step's by the difference of many steps and one.
-fn time(work: Work, side: Side, q: usize, n: usize, k: usize) -> f64 {
+fn time(work: Work, side: Side, kind: Kind, q: usize, n: usize, k: usize) -> f64 {
     match work {
         Work::Step => {
-            let many = best(job(work, side, q, n, k, 9));
-            (many - best(job(work, side, q, n, k, 1))) / 8.0
+            let many = best(job(work, side, kind, q, n, k, 9));
+            (many - best(job(work, side, kind, q, n, k, 1))) / 8.0
         }
-        _ => best(job(work, side, q, n, k, 1)),
+        _ => best(job(work, side, kind, q, n, k, 1)),
     }
 }
 
@@ -258,7 +265,7 @@ fn compare(count: usize) {
 fn main() {
     let args: Vec<String> = std::env::args().collect();
     if let [_, name, side, rounds] = &args[..] {
-        let (_, work, q, n, k) = *WORKS.iter().find(|work| work.0 == *name).expect("a work");
+        let (_, work, kind, q, n, k) = *WORKS.iter().find(|work| work.0 == *name).expect("a work");
         let side = match side.as_str() {
             "proved" => Side::Proved,
             "rust" => Side::Rust,
@@ -270,18 +277,18 @@ fn main() {
             Work::Step => (1, rounds),
             _ => (rounds, 1),
         };
-        let mut run = job(work, side, q, n, k, times);
+        let mut run = job(work, side, kind, q, n, k, times);
         (0..calls).for_each(|_| run());
         return;
     }
     compare(6000);
     println!("work\tproved µs\tRust µs\tproved / Rust\tplain µs\tplain / proved");
-    for (name, work, q, n, k) in WORKS {
-        let proved = time(work, Side::Proved, q, n, k);
-        let rust = time(work, Side::Rust, q, n, k);
+    for (name, work, kind, q, n, k) in WORKS {
+        let proved = time(work, Side::Proved, kind, q, n, k);
+        let rust = time(work, Side::Rust, kind, q, n, k);
         print!("{name}\t{proved:.1}\t{rust:.1}\t{:.2}", proved / rust);
         if let Work::Judge = work {
-            let plain = time(work, Side::Plain, q, n, k);
+            let plain = time(work, Side::Plain, kind, q, n, k);
             print!("\t{plain:.1}\t{:.1}", plain / proved);
         }
         println!();

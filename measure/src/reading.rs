@@ -53,19 +53,25 @@ impl Reader<'_> {
             entry.signed = if sent % 2 == 0 { half } else { -1 - half };
         }
         if kind != 0 {
-            entry.plain = self.field(0, if kind == 2 { 65536 } else { 12 }, 15)?;
+            let end = match kind {
+                2 => 65536,
+                4 => 1200,
+                _ => 12,
+            };
+            entry.plain = self.field(0, end, 15)?;
         }
         Ok(entry)
     }
 
     fn header(&mut self) -> Result<Header, Refusal> {
-        let kind = self.field(0, 4, 3)?;
+        let kind = self.field(0, 5, 3)?;
         let q = self.field(2, 9, 4)?;
         let n = self.field(1, 13, 5)?;
         let l = self.field(0, n, 6)?;
         let place = self.place;
         let k = self.field(1, 13, 7)?;
-        if q.pow((n + k - 1) as u32) > MOST_WORDS as u64 {
+        let words = q.checked_pow((n + k - 1) as u32);
+        if words.is_none_or(|count| count > MOST_WORDS as u64) {
             return Err((9, place));
         }
         Ok(Header { kind, q, n, l, k })

@@ -1,6 +1,6 @@
 //! A ring by hand: opened on a bench, and stepped with what crosses into each site.
 
-use crate::charges::{Both, Channels, Charge, Pitch, Voices};
+use crate::charges::{Both, Cents, Channels, Charge, Pitch, Voices};
 use crate::judging::{Bench, fill_charges};
 use crate::reading::{counts, read};
 use ctest::format::{MOST_WORDS, Refusal};
@@ -83,6 +83,7 @@ pub fn run(
         Some(0) => run_kind::<Voices>(bytes, cells, steps, meters),
         Some(1) => run_kind::<Pitch>(bytes, cells, steps, meters),
         Some(2) => run_kind::<Channels>(bytes, cells, steps, meters),
-        _ => run_kind::<Both>(bytes, cells, steps, meters),
+        Some(3) => run_kind::<Both>(bytes, cells, steps, meters),
+        _ => run_kind::<Cents>(bytes, cells, steps, meters),
     }
 }
