@@ -47,10 +47,10 @@ enum {
 };
 
 /* Kinds of charge. */
-enum { RINGBENCH_VOICES = 0, RINGBENCH_PITCH = 1, RINGBENCH_CHANNELS = 2, RINGBENCH_BOTH = 3 };
+enum { RINGBENCH_VOICES = 0, RINGBENCH_PITCH = 1, RINGBENCH_CHANNELS = 2, RINGBENCH_BOTH = 3, RINGBENCH_CENTS = 4 };
 
-/* A charge: voices are the signed part, a pitch class or a set of channels is the plain part, and kind 3 has voices and a
- * pitch class. A part that the kind lacks is 0. */
+/* A charge: voices are the signed part; a pitch class, a set of channels or a number of cents (0 to 1,199) is the plain part;
+ * and kind 3 has voices and a pitch class. A part that the kind lacks is 0. */
 struct ringbench_entry {
     int64_t signed_part;
     uint64_t plain_part;
