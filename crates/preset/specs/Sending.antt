@@ -1,6 +1,5 @@
 -- Charges of each kind as entries of a preset. Assumes nothing.
-use Rattle.std.specs.Prelude.{ℕ, ◌+◌, if◌then◌else◌, pos}
-use Rattle.charge.specs.Decimals.{value_of, cents_entry}
+use Rattle.std.specs.Prelude.{ℕ, pos}
 use Rattle.charge.specs.Groups.{Kind}
 use Rattle.charge.specs.declared.kind.ChargeKind.{ChargeKind}
 use Rattle.charge.specs.declared.voices.Voices.{Voices}
@@ -10,7 +9,6 @@ use Rattle.charge.specs.declared.both.Both.{Both}
 use Rattle.charge.specs.declared.cents.Cents.{Cents}
 use Rattle.charge.specs.declared.kind.ChargeKind.TheVariants as kind
 use Rattle.charge.specs.Kinds.{class_of, voices, pitch, channels, both, cents}
-use Rattle.charge.specs.Ranges.{cents_end}
 use Rattle.preset.specs.declared.entry.Entry.{Entry}
 
 -- Which of the delivered kinds the charges are of, and the entry that each is sent as.
@@ -30,13 +28,12 @@ channels_sending = record { named = kind.Channels; entry = λ c. record { signed
 abbrev pub both_sending : Sending Both
 both_sending = record { named = kind.Both; entry = λ b. record { signed = b.voices.count; plain = class_of b.pitch } }
 
--- Cents are sent as their value. Digits that may be no entry are sent with an octave more: the number means what they
--- mean, and is no entry of a preset either.
-abbrev pub cents_sent : ℕ → ℕ
-cents_sent digits = if cents_entry digits then value_of digits else cents_end + value_of digits
+-- cents are sent as the number that they mean, so that charges of one meaning are sent alike
+abbrev pub cents_sent : Cents → ℕ
+cents_sent c = (cents.means c).value
 
 abbrev pub cents_sending : Sending Cents
-cents_sending = record { named = kind.Cents; entry = λ c. record { signed = pos 0; plain = cents_sent c.digits } }
+cents_sending = record { named = kind.Cents; entry = λ c. record { signed = pos 0; plain = cents_sent c } }
 
 -- A delivered kind: its charges, what they mean and how they are sent.
 pub record Delivered : Type 1 where

